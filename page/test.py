@@ -83,13 +83,13 @@ def test_rows(page, folder):
     nano = classic(PACKETS[1:2], magic=0xA1B23C4D, fraction=123456789)
     when, reply = ROWS[0][1:3], "02:00:00:00:00:01 ARP reply 192.0.2.1 is-at 02:00:00:00:00:01"
     for name, data, time, begin in [
-            ("six.pcap", linked(113, SLL), when, f"cooked type 0 from {reply}"),
-            ("four.pcap", linked(113, "0000 0001 0004 c000020100000000 0800"), when, "cooked type 0 from c0:00:02:01 IPv4 0 bytes"),
-            ("none.pcap", linked(113, "0000 0001 0000 0000000000000000 0800"), when, "cooked type 0 from  IPv4"),
-            ("long.pcap", linked(113, "0000 0001 0014 0102030405060708 0800"), when, "cooked type 0 from 01:02:03:04:05:06:07:08"),
-            ("six2.pcap", linked(276, SLL2), when, f"if 3 cooked type 0 from {reply}"),
-            ("four2.pcap", linked(276, v2 + "04 c000020100000000"), when, "if 3 cooked type 0 from c0:00:02:01 IPv4 0 bytes"),
-            ("long2.pcap", linked(276, v2 + "14 0102030405060708"), when, "if 3 cooked type 0 from 01:02:03:04:05:06:07:08"),
+            ("six.pcap", linked(113, SLL), when, f"cooked to us from {reply}"),
+            ("four.pcap", linked(113, "0000 0001 0004 c000020100000000 0800"), when, "cooked to us from c0:00:02:01 IPv4 0 bytes"),
+            ("none.pcap", linked(113, "0000 0001 0000 0000000000000000 0800"), when, "cooked to us from  IPv4"),
+            ("long.pcap", linked(113, "0000 0001 0014 0102030405060708 0800"), when, "cooked to us from 01:02:03:04:05:06:07:08"),
+            ("six2.pcap", linked(276, SLL2), when, f"if 3 cooked to us from {reply}"),
+            ("four2.pcap", linked(276, v2 + "04 c000020100000000"), when, "if 3 cooked to us from c0:00:02:01 IPv4 0 bytes"),
+            ("long2.pcap", linked(276, v2 + "14 0102030405060708"), when, "if 3 cooked to us from 01:02:03:04:05:06:07:08"),
             ("short.pcap", linked(1, IPV4[:26]), when, "fault at 0: Ethernet II needs 14 bytes, has 13"),
             ("nano.pcap", nano, ["2023-11-14", "22:13:21.123456789"], ROWS[1][4]),
             ("far.pcapng", far, ["", "253402300800.000005"], ROWS[1][4].partition(" (")[0])]:

@@ -103,10 +103,10 @@ PACKETS = [
             placed("sll", 0, 16, 20, packet_type=0, hw_type=772, addr_len=6, addr="00:00:00:00:00:00", protocol=0x8100),
             vlan(16, 20, 0, 0, 5, 0x0800)], rest=rest(20, 20, "ether_type", 0x0800)),
     ]),
-    # the number of a cooked capture that says LLC (4) is not a length
-    ("LLC in a cooked capture", cooked("0004 0304 0006 0000000000000000 0004 424203", 1), 0, [
+    # the number of a cooked capture that says LLC (4) is not a length; a packet type (5) that has no name
+    ("LLC in a cooked capture", cooked("0005 0304 0006 0000000000000000 0004 424203", 1), 0, [
         packet(1, "2023-11-14T22:13:20.000000000Z", 113, 19, 19, [
-            placed("sll", 0, 16, 19, packet_type=4, hw_type=772, addr_len=6, addr="00:00:00:00:00:00", protocol=4)],
+            placed("sll", 0, 16, 19, packet_type=5, hw_type=772, addr_len=6, addr="00:00:00:00:00:00", protocol=4)],
                rest=rest(16, 19, "ether_type", 4)),
     ]),
     ("netlink", cooked("0004 0338 0000 0000000000000000 0010 aa", 1), 0, [
@@ -144,7 +144,7 @@ BRIEF_LINES = {
         "2 1970-01-01T00:00:01.999999999Z 02:00:00:00:00:02 > 02:00:00:00:00:01 0x88B5 2 bytes (18 of 20 bytes)"],
     "sections": [
         f"1 2023-11-14T22:13:20.123456Z {STATION} > {BROADCAST} fault at 14: vlan needs 4 bytes, has 0 (14 of 46 bytes)",
-        "2 2023-11-14T22:13:20.123456789Z cooked type 4 from 02:00:00:00:00:01 IPv4 1 bytes",
+        "2 2023-11-14T22:13:20.123456789Z cooked sent by us from 02:00:00:00:00:01 IPv4 1 bytes",
         f"3 - {STATION} > {BROADCAST} vlan 291 pcp 5 dei IPv4 0 bytes", "4 1970-01-01T00:00:00.000001Z skipped 1 bytes"],
     "ARP": [
         f"1 2023-11-14T22:13:20.000000Z 02:00:00:00:00:01 > {BROADCAST} ARP who-has 10.0.0.2 tell 10.0.0.1",
@@ -154,14 +154,14 @@ BRIEF_LINES = {
         f"2 2023-11-14T22:13:20.000000Z 02:00:00:00:00:01 > {BROADCAST} macsec an 2 pn 1 encrypted changed sealed 2 bytes",
         f"3 2023-11-14T22:13:20.000000Z 02:00:00:00:00:01 > {BROADCAST} fault at 14: version 1 of MACsec",
         f"4 2023-11-14T22:13:20.000000Z 02:00:00:00:00:01 > {BROADCAST} fault at 14: short length 1"],
-    "cooked capture v1": ["1 2023-11-14T22:13:20.000000Z cooked type 0 from 00:00:00:00:00:00 vlan 5 pcp 0 IPv4 0 bytes"],
-    "LLC in a cooked capture": ["1 2023-11-14T22:13:20.000000Z cooked type 4 from 00:00:00:00:00:00 0x0004 3 bytes"],
-    "netlink": ["1 2023-11-14T22:13:20.000000Z cooked type 4 from  sll_netlink 1 bytes"],
+    "cooked capture v1": ["1 2023-11-14T22:13:20.000000Z cooked to us from 00:00:00:00:00:00 vlan 5 pcp 0 IPv4 0 bytes"],
+    "LLC in a cooked capture": ["1 2023-11-14T22:13:20.000000Z cooked type 5 from 00:00:00:00:00:00 0x0004 3 bytes"],
+    "netlink": ["1 2023-11-14T22:13:20.000000Z cooked sent by us from  sll_netlink 1 bytes"],
     "a packet type without a meaning": ["1 2023-11-14T22:13:20.000000Z fault at 0: packet type 8"],
     "a header of cooked capture v1 that is cut": ["1 2023-11-14T22:13:20.000000Z fault at 0: cooked header needs 16 bytes, has 15"],
     "cooked capture v2": [
-        "1 2023-11-14T22:13:20.000000Z if 3 cooked type 2 from 02:00:00:00:00:01 vlan 5 pcp 0 IPv4 0 bytes",
-        "2 2023-11-14T22:13:20.000000Z if 3 cooked type 4 from 0a:00:00:01:00:00:00:00 sll_gre 1 bytes",
+        "1 2023-11-14T22:13:20.000000Z if 3 cooked multicast from 02:00:00:00:00:01 vlan 5 pcp 0 IPv4 0 bytes",
+        "2 2023-11-14T22:13:20.000000Z if 3 cooked sent by us from 0a:00:00:01:00:00:00:00 sll_gre 1 bytes",
         "3 2023-11-14T22:13:20.000000Z fault at 0: cooked header needs 20 bytes, has 6"],
 }
 # The names of protocols (the IEEE registry of ether types), other operations of ARP, and headers that are cut: an ARP packet has 28 bytes with addresses

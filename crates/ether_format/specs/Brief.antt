@@ -13,7 +13,7 @@ use Rattle.etherparse.specs.Types.Layer.TheVariants as layers
 use Rattle.etherparse.specs.Header.{Header}
 use Rattle.etherparse.specs.Header as headers
 use Rattle.ether_base.specs.Texts.NumberText.{description_in, hex_byte}
-use Rattle.ether_fields.specs.Names.{ether_type_names}
+use Rattle.ether_fields.specs.Names.{ether_type_names, packet_type_names}
 use Rattle.ether_sll2.specs.LinuxSll2.{LinuxSll2Value}
 use Rattle.ether_pcap.specs.Capture.{PacketValue}
 use Rattle.ether_content.specs.Content.{is_cut}
@@ -92,10 +92,18 @@ abbrev pub brief_arp : ArpValue → List ℕ
 brief_arp a =
     if nat_eq a.operation 1 then arp_request a else (if nat_eq a.operation 2 then arp_reply a else arp_other a)
 
+-- how a packet was sent, by its name, or as a number
+abbrev pub sent_text : Option (List ℕ) → ℕ → List ℕ
+sent_text (Some name) n = name
+sent_text None n = codes "type " ++ decimal n
+
+unfoldable pub packet_type_text : ℕ → List ℕ
+packet_type_text n = sent_text (description_in packet_type_names n) n
+
 -- a cooked header: how the packet was sent, and the sender's address
 abbrev pub cooked_text : (packet_type : ℕ) → (address : List ℕ) → List ℕ
 cooked_text packet_type address =
-    codes " cooked type " ++ (decimal packet_type ++ (codes " from " ++ colon_text address))
+    codes " cooked " ++ (packet_type_text packet_type ++ (codes " from " ++ colon_text address))
 
 abbrev pub brief_cooked : (packet_type len address : ℕ) → List ℕ
 brief_cooked packet_type len address = cooked_text packet_type (take len (spelled 8 address))

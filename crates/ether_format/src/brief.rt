@@ -12,7 +12,7 @@ ghost use Rattle.ether_content.specs.ContentViews.{cooked_view};
 ghost use Rattle.ether_pcap.specs.CaptureViews.{captured_packet_view};
 ghost use Rattle.ether_sll2.specs.LinuxSll2.{linux_sll2_of};
 ghost use Rattle.ether_output.specs.OutputBuffer.{Takes};
-ghost use Rattle.ether_format.specs.Brief.{address_text, announced_text, are_both, arp_other, arp_reply, arp_request, brief_arp, brief_cause, brief_cooked_v2, brief_cut, brief_end, brief_ethernet2, brief_front, brief_header, brief_macsec, brief_moment, brief_rest, brief_vlan, cooked_text, counted_text, fault_text, fraction_text, layer_word, lengths_text, llc_text, macsec_bits, other_saps, saps_text, sci_text, type_text, word_if};
+ghost use Rattle.ether_format.specs.Brief.{address_text, announced_text, are_both, arp_other, arp_reply, arp_request, brief_arp, brief_cause, brief_cooked_v2, brief_cut, brief_end, brief_ethernet2, brief_front, brief_header, brief_macsec, brief_moment, brief_rest, brief_vlan, cooked_text, counted_text, fault_text, fraction_text, layer_word, lengths_text, llc_text, macsec_bits, other_saps, packet_type_text, saps_text, sci_text, type_text, word_if};
 ghost use Rattle.ether_output.specs.Decimals.{two_digits};
 ghost use Rattle.ether_format.specs.Spelling.{colon_text};
 ghost use Rattle.ether_peel.specs.Walker.UnitHeader.{unit_header};
@@ -188,45 +188,55 @@ fn write_address<W: Sink>(protocol: EtherType, bytes: &[u8], out: &mut OutputBuf
 }
 
 /// Writes a header of cooked capture v1.
+#[inline(never)]
 fn write_linux_sll<W: Sink>(slice: &LinuxSllSlice<'_>, out: &mut OutputBuffer<'_, W>)
     ensures { Takes W.contents W.can_fail out.old (brief_header (headers.LinuxSll (linux_sll_of slice.now))) out.new }
 {
-    let packet_type = usize::from(slice.packet_type_number());
+    let address = slice.sender_address_full();
     let len = usize::from(slice.sender_address_valid_length());
-    write_sender(packet_type, &slice.sender_address_full(), len, out);
+    write_sender(slice.packet_type_number(), first_of(&address, len), out);
 }
 
-/// Writes ` cooked type TYPE from ADDRESS`: how the packet was sent, and the sender's address.
-fn write_sender<W: Sink>(
-    packet_type: usize,
-    address: &[u8; 8],
-    len: usize,
-    out: &mut OutputBuffer<'_, W>,
-)
-    ensures { Takes W.contents W.can_fail out.old (cooked_text packet_type (take len address.now)) out.new }
+/// Writes ` cooked TYPE from ADDRESS`: how the packet was sent, and the sender's address.
+fn write_sender<W: Sink>(packet_type: u16, address: &[u8], out: &mut OutputBuffer<'_, W>)
+    ensures { Takes W.contents W.can_fail out.old (cooked_text packet_type address.now) out.new }
 {
-    write_number(out, b" cooked type ", packet_type as u64);
+    out.append(b" cooked ");
+    write_packet_type(packet_type, out);
     out.append(b" from ");
-    write_colons(first_of(address, len), out);
+    write_colons(address, out);
+}
+
+/// Writes a packet type by its name, or as a number if it has no name.
+#[tactic(auto, unfolding(crate::specs::Brief::packet_type_text))]
+fn write_packet_type<W: Sink>(packet_type: u16, out: &mut OutputBuffer<'_, W>)
+    ensures { Takes W.contents W.can_fail out.old (packet_type_text packet_type) out.new }
+{
+    match name_of(Kind::PacketType, u64::from(packet_type)) {
+        Some(name) => out.append(name.as_bytes()),
+        None => write_number(out, b"type ", u64::from(packet_type)),
+    }
 }
 
 /// Writes a header of cooked capture v1 that is not walked.
+#[inline(never)]
 fn write_cooked<W: Sink>(header: &CookedHeader, out: &mut OutputBuffer<'_, W>)
     ensures { Takes W.contents W.can_fail out.old (brief_header (headers.LinuxSll (cooked_view header.now))) out.new }
 {
-    write_number(out, b" cooked type ", u64::from(header.packet_type));
-    out.append(b" from ");
-    write_colons(used(&header.address, usize::from(header.address_len)), out);
+    let address = used(&header.address, usize::from(header.address_len));
+    write_sender(header.packet_type, address, out);
 }
 
 /// Writes a header of cooked capture v2.
+#[inline(never)]
 fn write_linux_sll2<W: Sink>(packet: &LinuxSll2Slice<'_>, out: &mut OutputBuffer<'_, W>)
     ensures { Takes W.contents W.can_fail out.old (brief_cooked_v2 (linux_sll2_of packet.now)) out.new }
 {
-    let packet_type = usize::from(packet.packet_type_number());
+    let packet_type = u16::from(packet.packet_type_number());
+    let address = packet.sender_address_full();
     let len = usize::from(packet.sender_address_valid_length());
     write_number(out, b" if ", packet.interface_index() as u64);
-    write_sender(packet_type, &packet.sender_address_full(), len, out);
+    write_sender(packet_type, first_of(&address, len), out);
 }
 
 /// Writes how the walk through a packet ends, after a space.

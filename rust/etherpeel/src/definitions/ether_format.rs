@@ -1344,6 +1344,29 @@
 //!
 //! Uses: [`ArpValue`](crate::definitions::ether_base#def.ArpValue), [`arp_request`](#def.arp_request), [`arp_reply`](#def.arp_reply), [`arp_other`](#def.arp_other)
 //!
+//! <a id="def.sent_text"></a>
+//!
+//! ## `sent_text`
+//!
+//! How a packet was sent, by its name, or as a number.
+//!
+//! ```text
+//! abbrev pub sent_text : Option (List ℕ) → ℕ → List ℕ
+//! sent_text (Some name) n = name
+//! sent_text None n = codes "type " ++ decimal n
+//! ```
+//!
+//! <a id="def.packet_type_text"></a>
+//!
+//! ## `packet_type_text`
+//!
+//! ```text
+//! unfoldable pub packet_type_text : ℕ → List ℕ
+//! packet_type_text n = sent_text (description_in packet_type_names n) n
+//! ```
+//!
+//! Uses: [`sent_text`](#def.sent_text), [`description_in`](crate::definitions::ether_base#def.description_in), [`packet_type_names`](crate::definitions::ether_fields#def.packet_type_names)
+//!
 //! <a id="def.cooked_text"></a>
 //!
 //! ## `cooked_text`
@@ -1353,10 +1376,10 @@
 //! ```text
 //! abbrev pub cooked_text : (packet_type : ℕ) → (address : List ℕ) → List ℕ
 //! cooked_text packet_type address =
-//!     codes " cooked type " ++ (decimal packet_type ++ (codes " from " ++ colon_text address))
+//!     codes " cooked " ++ (packet_type_text packet_type ++ (codes " from " ++ colon_text address))
 //! ```
 //!
-//! Uses: [`colon_text`](#def.colon_text)
+//! Uses: [`packet_type_text`](#def.packet_type_text), [`colon_text`](#def.colon_text)
 //!
 //! <a id="def.brief_cooked"></a>
 //!

@@ -156,41 +156,46 @@ fn write_address<W: Sink>(protocol: EtherType, bytes: &[u8], out: &mut OutputBuf
 }
 
 /// Writes a header of cooked capture v1.
-#[inline]
+#[inline(never)]
 fn write_linux_sll<W: Sink>(slice: &LinuxSllSlice<'_>, out: &mut OutputBuffer<'_, W>) {
-    let packet_type = usize::from(slice.packet_type_number());
+    let address = slice.sender_address_full();
     let len = usize::from(slice.sender_address_valid_length());
-    write_sender(packet_type, &slice.sender_address_full(), len, out);
+    write_sender(slice.packet_type_number(), first_of(&address, len), out);
 }
 
-/// Writes ` cooked type TYPE from ADDRESS`: how the packet was sent, and the sender's address.
+/// Writes ` cooked TYPE from ADDRESS`: how the packet was sent, and the sender's address.
 #[inline]
-fn write_sender<W: Sink>(
-    packet_type: usize,
-    address: &[u8; 8],
-    len: usize,
-    out: &mut OutputBuffer<'_, W>,
-) {
-    write_number(out, b" cooked type ", packet_type as u64);
+fn write_sender<W: Sink>(packet_type: u16, address: &[u8], out: &mut OutputBuffer<'_, W>) {
+    out.append(b" cooked ");
+    write_packet_type(packet_type, out);
     out.append(b" from ");
-    write_colons(first_of(address, len), out);
+    write_colons(address, out);
+}
+
+/// Writes a packet type by its name, or as a number if it has no name.
+#[inline]
+fn write_packet_type<W: Sink>(packet_type: u16, out: &mut OutputBuffer<'_, W>) {
+    match name_of(Kind::PacketType, u64::from(packet_type)) {
+        Some(name) => out.append(name.as_bytes()),
+        None => write_number(out, b"type ", u64::from(packet_type)),
+    }
 }
 
 /// Writes a header of cooked capture v1 that is not walked.
-#[inline]
+#[inline(never)]
 fn write_cooked<W: Sink>(header: &CookedHeader, out: &mut OutputBuffer<'_, W>) {
-    write_number(out, b" cooked type ", u64::from(header.packet_type));
-    out.append(b" from ");
-    write_colons(used(&header.address, usize::from(header.address_len)), out);
+    let address = used(&header.address, usize::from(header.address_len));
+    write_sender(header.packet_type, address, out);
 }
 
 /// Writes a header of cooked capture v2.
-#[inline]
+#[inline(never)]
 fn write_linux_sll2<W: Sink>(packet: &LinuxSll2Slice<'_>, out: &mut OutputBuffer<'_, W>) {
-    let packet_type = usize::from(packet.packet_type_number());
+    let packet_type = u16::from(packet.packet_type_number());
+    let address = packet.sender_address_full();
     let len = usize::from(packet.sender_address_valid_length());
     write_number(out, b" if ", packet.interface_index() as u64);
-    write_sender(packet_type, &packet.sender_address_full(), len, out);
+    write_sender(packet_type, first_of(&address, len), out);
 }
 
 /// Writes how the walk through a packet ends, after a space.
