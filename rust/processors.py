@@ -247,7 +247,7 @@ def parts(name):
     if name in EMULATED:
         yield "the library for C", library
         yield "ether_tool", program("ether_tool")
-        yield "ether_capture", program("ether_capture", ["--emulated", str(EACH)])
+        yield "ether_capture", program("ether_capture", ["--gzip", "--emulated", str(EACH)])
 
 
 def tried(name):

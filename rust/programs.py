@@ -1,4 +1,5 @@
-"""Builds the programs by cargo, and runs over them the tests that run over the proved ones.
+"""Builds the programs by cargo, and runs over them the tests that run over the proved ones, and those of what only they do: they end well on signals
+(endings.py), and unpack captures (packed.py).
 
     python3 rust/programs.py
 
@@ -16,20 +17,21 @@ sys.dont_write_bytecode = True
 import building  # noqa: E402
 
 TOP = os.path.dirname(building.HERE)
-TESTS = {"ether_tool": ["ether_tool.py"], "ether_capture": ["ether_capture.py", "other_programs.py"]}
+TESTS = [("ether_tool", "tests/ether_tool.py"), ("ether_capture", "tests/ether_capture.py", "--gzip"), ("ether_capture", "tests/other_programs.py"),
+         ("ether_capture", "rust/endings.py"), ("ether_capture", "rust/packed.py")]
 EXAMPLES = ["example_switch", "example_vlan_rewriter"]
 RELEASE = os.path.join(building.PROGRAMS, "target", "release")
 
 
-def counts(names, test):
+def counts(names, test, *words):
     """How many tests of programs passed and failed; what they print besides is passed on."""
     paths = [os.path.join(RELEASE, name) for name in names]
-    ran = subprocess.run([sys.executable, f"{TOP}/tests/{test}", *paths], stdout=subprocess.PIPE, text=True)
+    ran = subprocess.run([sys.executable, f"{TOP}/{test}", *words, *paths], stdout=subprocess.PIPE, text=True)
     *others, last = ran.stdout.splitlines() or [""]
     told = re.fullmatch(r"(\d+) passed, (\d+) failed", last)
     passed, failed = (int(told[1]), int(told[2])) if told else (0, 1)
     told = ", ".join(os.path.basename(name) for name in names)
-    print(*others, f"{told}, tests/{test}: {passed} passed, {failed} failed", sep="\n", flush=True)
+    print(*others, f"{told}, {test}: {passed} passed, {failed} failed", sep="\n", flush=True)
     return passed, failed + (bool(ran.returncode) and not failed)
 
 
@@ -56,8 +58,8 @@ def main():
     if status or re.search(r"^warning", text, re.M):
         print(text[-4000:], "0 passed, 1 failed", sep="\n")
         return 1
-    found = [counts([name], test) for name, tests in TESTS.items() for test in tests]
-    found += [counts([f"examples/{name}" for name in EXAMPLES], "examples.py"), completions()]
+    found = [counts([name], *words) for name, *words in TESTS]
+    found += [counts([f"examples/{name}" for name in EXAMPLES], "tests/examples.py"), completions()]
     passed, failed = (sum(it) for it in zip(*found))
     print(f"{passed} passed, {failed} failed")
     return 1 if failed else 0

@@ -51,8 +51,6 @@ SEVERAL_FILES = [
     ("a fault in the last", ["--plain", "one.pcap", "cut.pcap"], plain(CLASSIC_LINES) + plain(FIRST_LINES), 3, CUT_FAULT),
     ("faults, and a file that is not there", ["empty", "no.pcap", "cut.pcap"],
      FIRST_LINES + totals(1, 0), 4, EMPTY_FAULT + "no.pcap" + NO_FILE + CUT_FAULT),
-    ("a packed capture", ["packed.gz", "fcs.pcap"],
-     FCS_LINES, 3, "packed.gz: byte 0: The magic number 0x1F8B0800 is not that of a pcap file. This looks like gzip: zcat unpacks it.\n"),
     ("packets of two files", ["-c", "3", "one.pcap", "two.pcapng"], part(CLASSIC_LINES, 0) + THIRD + totals(3, 0), 1),
     ("packets of the first alone", ["-c", "2", "one.pcap", "no.pcap"], CLASSIC_LINES, 1),
     ("all packets there are", ["-c", "6", "one.pcap", "two.pcapng", "no.pcap"], ONE_TWO + totals(6, 1), 1),
@@ -71,8 +69,12 @@ SEVERAL_FILES = [
     ("a limit after a header of cooked capture v2", ["--plain", "--limit", "0", "none.pcap", "v2.pcap"], V2_LINE + "rest 20 25 type 0x8100\n", 0),
 ]
 
+PACKED = ["packed.gz", "fcs.pcap"]
+UNPACKED = part(CLASSIC_LINES, 0) + part(FCS_LINES, 2) + totals(4, 0), "", 1
+NOT_UNPACKED = FCS_LINES, "packed.gz: byte 0: The magic number 0x1F8B0800 is not that of a pcap file. This looks like gzip: zcat unpacks it.\n", 3
 
-def several(program):
+
+def several(program, unpacks):
     """Runs over several files, also with little memory, to a full disk and to a reader that has gone."""
     with tempfile.TemporaryDirectory() as folder:
         for name, capture in FILES.items():
@@ -85,6 +87,7 @@ def several(program):
         try:
             for name, words, text, status, *said in SEVERAL_FILES:
                 yield f"several files: {name}", partial(run_apart, program, words, CLASSIC), (text, "".join(said), status)
+            yield "several files: a packed capture", partial(run_apart, program, PACKED, CLASSIC), UNPACKED if unpacks else NOT_UNPACKED
             found = partial(run_apart, program, ["--plain", "one.pcap", "-"], CLASSIC[:120])
             wanted = plain(CLASSIC_LINES) + plain(FIRST_LINES), INPUT + record_is_cut(59, 62, 61), 3
             yield "several files, a fault of standard input", found, wanted

@@ -1,6 +1,6 @@
 """Tests what `ether_capture` prints and how it ends, with nothing but Python.
 
-    python3 tests/ether_capture.py [--emulated N] PROGRAM [WORD]
+    python3 tests/ether_capture.py [--emulated N] [--gzip] PROGRAM [WORD]
 
 PROGRAM is the built program, WORD one that the names of the cases have which are run, all if it is left out. The captures were written by
 hand and checked with tshark. The last line is 'N passed, M failed'.
@@ -66,8 +66,6 @@ CASES = [
     Case("a record's header that is cut", [], CLASSIC[:60], FIRST_LINES, 3, INPUT + record_is_cut(59, 16, 1)),
     Case("a cut record, its walks alone", ["--plain"], CLASSIC[:58], "", 3, INPUT + record_is_cut(24, 35, 34)),
     Case("another magic number", [], CLASSIC[4:], "", 3, INPUT + ": byte 0: The magic number 0x00020004 is not that of a pcap file.\n"),
-    Case("a packed capture", [], gzip.compress(CLASSIC, mtime=0),
-         "", 3, INPUT + ": byte 0: The magic number 0x1F8B0800 is not that of a pcap file. This looks like gzip: zcat unpacks it.\n"),
     Case("a capture packed by bzip2", [], bz2.compress(CLASSIC),
          "", 3, INPUT + ": byte 0: The magic number 0x425A6839 is not that of a pcap file. This looks like bzip2: bzcat unpacks it.\n"),
     Case("one packed by lz4", [], joined("04224d18") + CLASSIC,
@@ -504,7 +502,14 @@ def alone(program):
 NOT_EMULATED = ["no memory", "without memory", "on the disk before", "a block of 15 MiB in pieces"]
 
 
-def tried(program):
+def packed(program, unpacks):
+    """A capture packed by gzip, which one of the builds unpacks."""
+    hint = INPUT + ": byte 0: The magic number 0x1F8B0800 is not that of a pcap file. This looks like gzip: zcat unpacks it.\n"
+    wanted = (CLASSIC_LINES, "", 1) if unpacks else ("", hint, 3)
+    yield "a packed capture", partial(run_apart, program, [], gzip.compress(CLASSIC, mtime=0)), wanted
+
+
+def tried(program, unpacks):
     """All cases: the name of each, what is found, and what is wanted."""
     for case in CASES:
         yield case.name, partial(run_apart, program, case.words, case.capture), (case.text, case.said, case.status)
@@ -514,7 +519,9 @@ def tried(program):
             yield f"{case.name} in pieces of {step}", found, (case.text, case.said, case.status)
     for name, words, text in WRONG:
         yield name, partial(copied, program, words, CLASSIC), (b"", text, 2)
-    for more in (in_files, selections, several, limits, reasons, streams, examples, counts, copies, copies_of_copies, copies_that_fail,
+    for more in (packed, several):
+        yield from more(program, unpacks)
+    for more in (in_files, selections, limits, reasons, streams, examples, counts, copies, copies_of_copies, copies_that_fail,
                  wrong_words_alone, helps, alone):
         yield from more(program)
 
@@ -524,8 +531,9 @@ def main():
     words.add_argument("program", metavar="PROGRAM")
     words.add_argument("word", metavar="WORD", nargs="?", default="")
     words.add_argument("--emulated", metavar="N", type=int, help="an emulator runs the program: run each Nth case, but for those that it can't run")
+    words.add_argument("--gzip", action="store_true", help="the program unpacks what gzip has packed, as that of cargo does")
     given = words.parse_args()
-    cases = tried(os.path.realpath(given.program))
+    cases = tried(os.path.realpath(given.program), given.gzip)
     if given.emulated:
         print(f"left out: cases with {', '.join(map(repr, NOT_EMULATED))}, and all others but each {given.emulated}th, since an emulator runs the program")
         cases = (it for it in cases if not any(name in it[0] for name in NOT_EMULATED))

@@ -163,7 +163,8 @@ class Trial:
             return [[sys.executable, f"{self.page(number, fault)}/test.py"]]
         if "examples" in path:
             return [[sys.executable, f"{tests}/examples.py", *examples]]
-        return [[sys.executable, f"{tests}/{name}.py", f"{self.programs}/{name}"] for name in ("ether_capture", "ether_tool")]
+        return [[sys.executable, f"{tests}/ether_capture.py", "--gzip", f"{self.programs}/ether_capture"],
+                [sys.executable, f"{tests}/ether_tool.py", f"{self.programs}/ether_tool"]]
 
     def seen(self, number, fault, path):
         """The name of the first test that sees a fault, or None."""

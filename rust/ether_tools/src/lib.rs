@@ -1,9 +1,12 @@
 //! What the programs are made of: by a script [`ether_text`], [`ether_stream`] and most of [`ether_capture`]; by hand
-//! [`streams`], and what the head of a file says.
+//! [`ending`], [`gzip`], [`reasons`] and [`streams`], and what the head of a file says.
+pub mod ending;
 #[rustfmt::skip]
 pub mod ether_capture;
 #[rustfmt::skip]
 pub mod ether_stream;
 #[rustfmt::skip]
 pub mod ether_text;
+pub mod gzip;
+pub mod reasons;
 pub mod streams;

@@ -1,9 +1,10 @@
 //! Keeps copies in the file system. Written by hand, not proved.
+use crate::ending::Ending;
 use crate::ether_capture::copies::Copies;
-use crate::ether_stream::WriteFault;
+use crate::ether_stream::{LastLine, WriteFault};
 use std::fs::{self, File, Metadata, OpenOptions};
 use std::io::{self, Error, ErrorKind, Write};
-use std::os::unix::fs::MetadataExt;
+use std::os::unix::fs::{FileTypeExt, MetadataExt};
 use std::path::PathBuf;
 
 /// How many names are tried for a part: each run that was killed may have left one.
@@ -16,7 +17,22 @@ const MOST_LINKS: usize = 40;
 const STANDARD_INPUT: &str = "/dev/stdin";
 
 /// Files that get copies.
-pub struct CopyFiles;
+pub struct CopyFiles<'a> {
+    ending: &'a Ending,
+    lost: Option<(String, WriteFault)>,
+}
+
+impl<'a> CopyFiles<'a> {
+    /// Files that get copies, also that of a run that a signal ends.
+    pub fn new(ending: &'a Ending) -> Self {
+        CopyFiles { ending, lost: None }
+    }
+
+    /// The line that says that the copy of a run that a signal has ended can't be written, if it can't.
+    pub fn lost(&self) -> Option<LastLine<'_>> {
+        self.lost.as_ref().map(|(name, fault)| LastLine::NotWritten(name, *fault))
+    }
+}
 
 /// A copy that is being written: to a new file in the folder of the file that gets it. Or directly to what the name is
 /// of, if that is not a regular file, as `/dev/null`, or if no file can be made in its folder.
@@ -24,10 +40,16 @@ pub struct PartFile {
     file: File,
     is_regular: bool,
     beside: Option<PathBuf>,
+    is_begun: bool,
     error: Option<Error>,
 }
 
 impl PartFile {
+    /// A copy without a byte.
+    fn new(file: File, is_regular: bool, beside: Option<PathBuf>) -> Self {
+        PartFile { file, is_regular, beside, is_begun: false, error: None }
+    }
+
     /// Keeps the error of a call, if it has failed.
     fn note<V>(&mut self, answer: io::Result<V>) -> io::Result<V> {
         answer.map_err(|error| {
@@ -53,6 +75,7 @@ impl PartFile {
 impl Write for PartFile {
     fn write(&mut self, buf: &[u8]) -> io::Result<usize> {
         let answer = self.file.write(buf);
+        self.is_begun |= answer.is_ok();
         self.note(answer)
     }
 
@@ -62,7 +85,7 @@ impl Write for PartFile {
     }
 }
 
-impl Copies for CopyFiles {
+impl Copies for CopyFiles<'_> {
     type Part = PartFile;
 
     fn begin(&mut self, name: &str, input: Option<&str>) -> Result<PartFile, WriteFault> {
@@ -75,9 +98,11 @@ impl Copies for CopyFiles {
         if found.is_dir() {
             return Err(WriteFault::IsADirectory);
         }
-        let file = OpenOptions::new().write(true).open(name).map_err(|error| write_fault(&error))?;
+        let open = || OpenOptions::new().write(true).open(name);
+        let opened = if found.file_type().is_fifo() { self.ending.unwatched(open) } else { open() };
+        let file = opened.map_err(|error| write_fault(&error))?;
         if !found.is_file() {
-            return Ok(PartFile { file, is_regular: false, beside: None, error: None });
+            return Ok(PartFile::new(file, false, None));
         }
         match beside(followed(name)?) {
             Err(WriteFault::PermissionDenied) => in_place(file, &found, input),
@@ -98,9 +123,18 @@ impl Copies for CopyFiles {
         })
     }
 
-    fn give_up(&mut self, _name: &str, part: PartFile) -> WriteFault {
-        part.remove();
-        part.error.as_ref().map_or(WriteFault::Other, write_fault)
+    /// If a signal has ended the run, the units before that are a copy, which is finished.
+    fn give_up(&mut self, name: &str, part: PartFile) -> WriteFault {
+        if let Some(error) = &part.error {
+            part.remove();
+            return write_fault(error);
+        }
+        if !self.ending.has_cut() || !part.is_begun {
+            part.remove();
+        } else if let Err(fault) = self.finish(name, part) {
+            self.lost = Some((name.to_owned(), fault));
+        }
+        WriteFault::Other
     }
 }
 
@@ -124,7 +158,7 @@ fn in_place(file: File, found: &Metadata, input: Option<&str>) -> Result<PartFil
         _ => return Err(WriteFault::PermissionDenied),
     }
     file.set_len(0).map_err(|error| write_fault(&error))?;
-    Ok(PartFile { file, is_regular: true, beside: None, error: None })
+    Ok(PartFile::new(file, true, None))
 }
 
 /// Creates a part in the folder of a file.
@@ -133,7 +167,7 @@ fn beside(path: PathBuf) -> Result<PartFile, WriteFault> {
         let mut part = path.clone().into_os_string();
         part.push(if number == 0 { ".part".to_owned() } else { format!(".{number}.part") });
         match File::create_new(&part) {
-            Ok(file) => return Ok(PartFile { file, is_regular: true, beside: Some(part.into()), error: None }),
+            Ok(file) => return Ok(PartFile::new(file, true, Some(part.into()))),
             Err(error) if error.kind() == ErrorKind::AlreadyExists => (),
             Err(error) => return Err(write_fault(&error)),
         }
