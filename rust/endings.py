@@ -151,8 +151,8 @@ def signalled(program, words, given, signals, folder, is_ready, rest=b"", pause=
     """Starts the program, gives it the bytes, and when it is ready the signals, each after so many seconds (a run is short for 0.05); then further bytes, and if `ends` the end
     of the input. Returns whether it was ready, what it printed and said, its status, and how many seconds it took from the first signal on."""
     with tempfile.TemporaryFile() as out, tempfile.TemporaryFile() as said:
-        how = {"stdin": subprocess.PIPE, **how}
-        with subprocess.Popen([program, *words], stdout=out, stderr=said, bufsize=0, cwd=folder, **how) as child:
+        how = {"stdin": subprocess.PIPE, "stdout": out, **how}
+        with subprocess.Popen([program, *words], stderr=said, bufsize=0, cwd=folder, **how) as child:
             if given:
                 child.stdin.write(given)
             was_ready = until(is_ready)
@@ -253,6 +253,9 @@ def lines(program):
         ):
             found = signalled(program, words, MANY[:24 + 35 * 3 + 9], [(signal.SIGINT, 0)], folder, ready)
             yield f"SIGINT, {name}", (found[1].decode("latin-1"), *found[2:4]), (wanted, said, 130)
+        with open("/dev/full", "wb") as full:
+            found = signalled(program, ["--stats"], MANY[:24 + 35 * 3], [(signal.SIGINT, 0)], folder, ready, stdout=full)
+        yield "SIGINT, counts that can't be printed", found[2:4], (BY_INT + "ether_capture: standard output: No space left on device (os error 28)\n", 4)
         name = os.path.join(folder, "fifo")
         os.mkfifo(name)
         found = signalled(program, ["fifo"], b"", [(signal.SIGINT, 0)], folder, ready)

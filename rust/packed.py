@@ -64,7 +64,7 @@ def alike(program):
         for what, capture, text in (("a classic capture", CLASSIC, CLASSIC_LINES), ("pcapng", SECTIONS, SECTION_LINES)):
             yield f"{name}, {what}", partial(run_apart, program, [], form(capture)), (text, "", 1)
             yield f"{name}, {what}, a file", partial(in_a_file, program, [], form(capture)), (text, "", 1)
-            yield f"{name}, {what}, in pieces", partial(run_apart, program, [], form(capture), 3), (text, "", 1)
+            yield f"{name}, {what}, in pieces", partial(run_apart, program, [], form(capture), 1), (text, "", 1)
     for name, capture in (("many packets", LONG), ("a block of 16 MiB", secrets(16_777_216, 16_777_216)), ("noise", NOISE), ("a cut packet", LONG[:-5])):
         for words in ([], ["--format", "json"], ["--stats"], ["--plain", "--select", "vlan"]):
             wanted = partial(run_apart, program, words, capture)
@@ -166,6 +166,7 @@ def besides(program):
             file.write(given)
         found = run_apart(program, ["--progress", "--plain", "packed"], b"", cwd=folder)
         yield "--progress counts packed bytes", shown(found[1])[1:], ((str(len(given)), str(len(given))), "")
+    yield "a file that the system can't read", partial(run_apart, program, ["/proc/self/mem"], b""), ("", "/proc/self/mem: can't be read\n", 4)
     if not which("strace"):
         print("left out: interrupted calls, since there is no strace")
         return

@@ -163,8 +163,9 @@ class Trial:
             return [[sys.executable, f"{self.page(number, fault)}/test.py"]]
         if "examples" in path:
             return [[sys.executable, f"{tests}/examples.py", *examples]]
-        return [[sys.executable, f"{tests}/ether_capture.py", "--gzip", f"{self.programs}/ether_capture"],
-                [sys.executable, f"{tests}/ether_tool.py", f"{self.programs}/ether_tool"]]
+        words = [[f"{tests}/ether_capture.py", "--gzip"], [f"{self.tree}/rust/packed.py"], [f"{self.tree}/rust/endings.py"]]
+        words = [[sys.executable, *it, f"{self.programs}/ether_capture"] for it in words]
+        return [*words, [sys.executable, f"{tests}/ether_tool.py", f"{self.programs}/ether_tool"]]
 
     def seen(self, number, fault, path):
         """The name of the first test that sees a fault, or None."""

@@ -17,11 +17,11 @@ class Fault:
 
 SWITCH, INTERFACE = "c/examples/switch.c", "c/examples/interface.h"
 BY_HAND, PACKAGE, PAGE = "rust/etherpeel_c/by_hand.rs", "c/python/etherpeel/", "page/"
-STREAMS, NOTED, FILES, COPIES, PROGRESS, OPTIONS, TABLE, MEMORY, TEXT, INTERFACES, CAPTURE_MAIN, TOOL_MAIN = (
+STREAMS, NOTED, FILES, COPIES, PROGRESS, OPTIONS, TABLE, MEMORY, TEXT, INTERFACES, CAPTURE_MAIN, TOOL_MAIN, ENDING, GZIP, REASONS = (
     f"rust/ether_tools/src/{name}.rs" for name in (
         "streams", "ether_text/noted", "ether_capture/capture_files", "ether_capture/copy_files", "ether_capture/progress_line",
         "ether_capture/options", "ether_capture/count_table", "ether_capture/heap_memory", "ether_capture/heap_text",
-        "ether_capture/interface_buffer", "bin/ether_capture", "bin/ether_tool"))
+        "ether_capture/interface_buffer", "bin/ether_capture", "bin/ether_tool", "ending", "gzip", "reasons"))
 NUMBER = "!*end && number <= most"
 SHARED, MUTABLE = "core::slice::from_raw_parts(first, len)", "core::slice::from_raw_parts_mut(first, len)"
 BUFFERS = "veth takes each frame at once, so that the buffer for sending never fills"
@@ -87,7 +87,36 @@ FAULTS = [
     Fault(FILES, "a forbidden file is told otherwise", "OpenFault::PermissionDenied", "OpenFault::Other"),
     Fault(COPIES, "no sync_all", "self.file.sync_all()", "std::io::Result::Ok(())"),
     Fault(COPIES, "a part that is left after a rename that fails", "part.remove();", "", "part.remove();\n            write_fault(&error)"),
-    Fault(COPIES, "a part that is left by a copy that fails", "part.remove();", "", "part.remove();\n        part.error"),
+    Fault(COPIES, "a part that is left by a copy that fails", "part.remove();", "", "part.remove();\n        } else if"),
+    Fault(COPIES, "a part that is left by a write that fails", "part.remove();", "", "part.remove();\n            return write_fault(error);"),
+    Fault(COPIES, "no copy of a run that a signal ends", "!self.ending.has_cut() || !part.is_begun", "true"),
+    Fault(COPIES, "a copy without a byte", "!part.is_begun", "false", "self.ending.has_cut() || !part.is_begun"),
+    Fault(COPIES, "a copy of a run that fails", "!self.ending.has_cut()", "false", "!self.ending.has_cut() || "),
+    Fault(COPIES, "a copy that is lost", "self.lost = Some((name.to_owned(), fault));", "let _ = fault;"),
+    Fault(COPIES, "a FIFO that nobody reads", "found.file_type().is_fifo()", "false"),
+    Fault(FILES, "a FIFO that nobody opens", "found.file_type().is_fifo()", "false"),
+    Fault(ENDING, "SIGTERM kills", "[SIGINT, SIGTERM]", "[SIGINT, SIGINT]", "[SIGINT, SIGTERM].into_iter()"),
+    Fault(ENDING, "a signal is no longer ignored", "ignored >> (signal - 1) & 1 == 0", "true"),
+    Fault(ENDING, "no wait for the writer", "kind == Kind::Stream", "false"),
+    Fault(ENDING, "a wait for a terminal", "file.is_terminal()", "false"),
+    Fault(ENDING, "a wait for a file", "metadata.is_file()", "false"),
+    Fault(ENDING, "files after the signal", "!self.has_cut.get()", "true", "        !self.has_cut.get()\n"),
+    Fault(ENDING, "a second signal at once kills", "thread::Builder::new().stack_size(STACK).spawn(waiting).is_ok()", "false"),
+    Fault(ENDING, "no second signal kills", "has_default.store(true, Ordering::SeqCst);", "", "thread::sleep(SAME);\n            has_default.store(true, Ordering::SeqCst);"),
+    Fault(ENDING, "a FIFO is waited for", "self.has_default.swap(true, Ordering::SeqCst)", "self.has_default.load(Ordering::SeqCst)"),
+    Fault(ENDING, "another status", "128 + number as u8", "128"),
+    Fault(ENDING, "a read that is interrupted", "error.kind() == ErrorKind::Interrupted", "false"),
+    Fault(GZIP, "nothing is unpacked", "!buf[..count].starts_with(&MAGIC)", "true"),
+    Fault(GZIP, "one byte tells", "count == 1 && buf[0] == MAGIC[0]", "false"),
+    Fault(GZIP, "a wait for more packets", "count == 0", "true", "may_wait = count == 0"),
+    Fault(GZIP, "all is damaged", "self.decoder.get_ref().is_over", "false"),
+    Fault(GZIP, "a fault that is forgotten", "self.fault = Some(fault);", "drop(fault);"),
+    Fault(GZIP, "much is lost", "PIECE", "ROOM", "bytes.len().min(PIECE)"),
+    Fault(REASONS, "no reason", "self.reasons.last.take()", "None::<Error>"),
+    Fault(REASONS, "a reason of the system", "error.raw_os_error().is_none()", "true"),
+    Fault(REASONS, "each file after the signal", "self.ending.has_cut()", "false"),
+    Fault(CAPTURE_MAIN, "nothing is said of a signal", "ending.has_cut()", "false"),
+    Fault(CAPTURE_MAIN, "counts that are lost", "output.is_some()", "false", "if output.is_some() {"),
     Fault(COPIES, "permissions of a new file", "let _ = part.file.set_permissions(found.permissions());", ""),
     Fault(COPIES, "a link that is replaced", "followed(name).unwrap_or(name.into())", "PathBuf::from(name)"),
     Fault(COPIES, "a part beside the link", "followed(name)?", "PathBuf::from(name)", "return beside(followed(name)?);"),
