@@ -264,7 +264,22 @@ def lines(program):
         yield "a FIFO that nobody reads", (found[1:4], found[4] < 0.9), ((b"", "", -signal.SIGINT), True)
     yield "SIGINT amid a regular file", partial(amid_a_file, program, [(signal.SIGINT, 0)]), (130, BY_INT, True, True)
     yield "SIGTERM amid a regular file", partial(amid_a_file, program, [(signal.SIGTERM, 0)], ["other"]), (143, BY_TERM, True, True)
+    yield "SIGINT after the last read of a file", partial(after_a_file, program), (True, "", 1)
     yield "SIGINT amid a packed file", partial(amid_a_file, program, [(signal.SIGINT, 0)], packs=True), (130, BY_INT, True, True)
+
+
+def after_a_file(program):
+    """Whether all is printed of a file that was read in one read, if the signal comes while its lines wait for a reader, what is said, and the status."""
+    capture = MANY[:24 + 35 * 1_700]
+    wanted = run_apart(program, [], capture)[0].encode()
+    with tempfile.TemporaryFile() as file:
+        file.write(capture)
+        file.seek(0)
+        with subprocess.Popen([program], stdin=file, stdout=subprocess.PIPE, stderr=subprocess.PIPE) as child:
+            time.sleep(0.3)
+            child.send_signal(signal.SIGINT)
+            text, said = child.communicate()
+    return len(wanted) > 200_000 and text == wanted, said.decode(), child.returncode
 
 
 def amid_a_file(program, signals, others=(), packs=False):

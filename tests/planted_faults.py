@@ -90,7 +90,7 @@ FAULTS = [
     Fault(COPIES, "a part that is left by a copy that fails", "part.remove();", "", "part.remove();\n        } else if"),
     Fault(COPIES, "a part that is left by a write that fails", "part.remove();", "", "part.remove();\n            return write_fault(error);"),
     Fault(COPIES, "no copy of a run that a signal ends", "!self.ending.has_cut() || !part.is_begun", "true"),
-    Fault(COPIES, "a copy without a byte", "!part.is_begun", "false", "self.ending.has_cut() || !part.is_begun"),
+    Fault(COPIES, "a copy without a byte", "!part.is_begun", "false", "|| !part.is_begun"),
     Fault(COPIES, "a copy of a run that fails", "!self.ending.has_cut()", "false", "!self.ending.has_cut() || "),
     Fault(COPIES, "a copy that is lost", "self.lost = Some((name.to_owned(), fault));", "let _ = fault;"),
     Fault(COPIES, "a FIFO that nobody reads", "found.file_type().is_fifo()", "false"),
