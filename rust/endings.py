@@ -12,6 +12,7 @@ import os
 import pty
 import random
 import re
+import select
 import signal
 import socket
 import subprocess
@@ -28,6 +29,7 @@ from capture_streams import contents, until  # noqa: E402
 from made_captures import CLASSIC, NO_FILE, SIX, classic  # noqa: E402
 from programs import count, run_apart  # noqa: E402
 
+SECONDS = 15  # for what does not end by itself
 UNIT = CLASSIC[24:59]  # a record of 35 bytes
 MANY = CLASSIC[:24] + UNIT * 20_000
 UNREAD = "the rest of the input was not read\n"
@@ -69,6 +71,15 @@ def without_wait(path):
         return None
 
 
+def ended(child):
+    """Waits until a process has ended, and kills it if it does not."""
+    try:
+        child.wait(SECONDS)
+    except subprocess.TimeoutExpired:
+        child.kill()
+        child.wait()
+
+
 def kinds(names):
     """The names of a folder's files that say something of a copy."""
     return sorted(it for it in names if "copy" in it)
@@ -87,12 +98,12 @@ def in_terminal(command, folder, is_ready, key=b"\x03"):
     os.write(master, key)
     shown = b""
     try:
-        while piece := os.read(master, 4096):
+        while select.select([master], [], [], SECONDS)[0] and (piece := os.read(master, 4096)):
             shown += piece
     except OSError:
         pass  # nobody has the other end any more
+    os.close(master)  # which ends what still runs there
     os.waitpid(child, 0)
-    os.close(master)
     return was_ready, shown.decode().replace("^C", "").replace("\r\n", "\n"), (without_wait(os.path.join(folder, "status")) or b"none").decode().strip()
 
 
@@ -165,7 +176,7 @@ def signalled(program, words, given, signals, folder, is_ready, rest=b"", pause=
                 child.stdin.write(rest)
             if ends:
                 child.stdin.close()
-            child.wait()
+            ended(child)
             seconds = time.monotonic() - begun
             if child.stdin and not ends:
                 child.stdin.close()
@@ -223,7 +234,8 @@ def endless(program):
                 until(has_part(folder, 100_000))
                 begun = time.monotonic()
                 child.terminate()
-                said = child.communicate()[1]
+                ended(child)
+                said = child.stderr.read()
                 seconds = time.monotonic() - begun
         copy = without_wait(os.path.join(folder, "copy")) or b""
         units = (len(copy) - 24) // 35
@@ -332,7 +344,7 @@ def killed_writer(program):
             for after in (0.3, 0.3):
                 time.sleep(after)
                 child.send_signal(signal.SIGINT)
-            child.wait()
+            ended(child)
             return child.returncode, child.stderr.read()
 
 

@@ -163,7 +163,7 @@ impl Ending {
             let polled = if left.is_some() { &mut ends[..1] } else { &mut ends[..] };
             let short = Some(SHORT_WAIT).filter(|_| self.reads.get() < SHORT_RUN);
             match wait(polled, left.or(short)) {
-                Ok(0) => self.count_read(true),
+                Ok(0) if left.is_none() => self.count_read(true),
                 Ok(_) if polled[0].any() == Some(false) => {}
                 Ok(_) => return true,
                 Err(Errno::EINTR) => {}
