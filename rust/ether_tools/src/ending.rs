@@ -11,6 +11,7 @@ use std::fs::File;
 use std::io::{self, BufRead, BufReader, Error, ErrorKind, IsTerminal, Read, Write};
 use std::os::fd::{AsRawFd, RawFd};
 use std::os::unix::net::UnixStream;
+use std::str;
 use std::sync::Arc;
 use std::sync::atomic::{AtomicBool, AtomicUsize, Ordering};
 use std::thread;
@@ -33,7 +34,7 @@ const SHORT_WAIT: Duration = Duration::from_millis(50);
 const STACK: usize = 65_536;
 
 /// How Linux begins the line of the signals that a process ignores.
-const IGNORED: &str = "SigIgn:";
+const IGNORED: &[u8] = b"SigIgn:";
 
 /// Whether a signal has asked the run to end, and whether a part of the input was left unread for that reason.
 #[derive(Default)]
@@ -188,9 +189,15 @@ fn ignored_signals() -> u64 {
     let Ok(status) = File::open("/proc/self/status") else {
         return 0;
     };
-    let mut lines = BufReader::new(status).lines().map_while(Result::ok);
-    let line = lines.find(|line| line.starts_with(IGNORED)).unwrap_or_default();
-    u64::from_str_radix(line.trim_start_matches(IGNORED).trim(), 16).unwrap_or(0)
+    let (mut lines, mut line) = (BufReader::new(status), Vec::new());
+    while lines.read_until(b'\n', &mut line).is_ok_and(|count| count > 0) {
+        if let Some(mask) = line.strip_prefix(IGNORED) {
+            let mask = str::from_utf8(mask).unwrap_or_default();
+            return u64::from_str_radix(mask.trim(), 16).unwrap_or(0);
+        }
+        line.clear();
+    }
+    0
 }
 
 /// What an input is, as far as it matters for a signal.
