@@ -7,6 +7,7 @@ The last line is 'N passed, M failed'.
 """
 import argparse
 import concurrent.futures
+import contextlib
 import gzip
 import os
 import pty
@@ -30,6 +31,7 @@ from made_captures import CLASSIC, NO_FILE, SIX, classic  # noqa: E402
 from programs import count, run_apart  # noqa: E402
 
 SECONDS = 15  # for what does not end by itself
+RUNS = 5  # of `timeout`
 UNIT = CLASSIC[24:59]  # a record of 35 bytes
 MANY = CLASSIC[:24] + UNIT * 20_000
 UNREAD = "the rest of the input was not read\n"
@@ -173,7 +175,8 @@ def signalled(program, words, given, signals, folder, is_ready, rest=b"", pause=
                 child.send_signal(number)
             time.sleep(pause)
             if rest:
-                child.stdin.write(rest)
+                with contextlib.suppress(BrokenPipeError):  # the program has ended
+                    child.stdin.write(rest)
             if ends:
                 child.stdin.close()
             ended(child)
@@ -212,6 +215,7 @@ def copies(program):
     with tempfile.TemporaryDirectory() as folder:
         found = signalled(program, ["-w", "copy"], b"", [(signal.SIGTERM, 0)], folder, lambda: os.path.exists(os.path.join(folder, "copy.part")))
         yield "no byte has come", (found[:4], contents(folder)), ((True, b"", BY_TERM, 143), {})
+    with tempfile.TemporaryDirectory() as folder:
         is_there = lambda: size_of(os.path.join(folder, "copy.part")) >= 24 and not os.mkdir(os.path.join(folder, "copy"))  # noqa: E731
         found = signalled(program, ["-w", "copy"], cut, [(signal.SIGTERM, 0)], folder, is_there)
         said = BY_TERM + "copy: can't be written: it is a folder\n"
@@ -319,10 +323,11 @@ def amid_a_file(program, signals, others=(), packs=False):
 def later(program):
     """Signals after the first, and those that are ignored."""
     cut = MANY[:24 + 35 * 100 + 17]
-    for first, second in ((signal.SIGINT, signal.SIGINT), (signal.SIGTERM, signal.SIGTERM), (signal.SIGINT, signal.SIGTERM)):
+    for first, second, after in ((signal.SIGINT, signal.SIGINT, 0), (signal.SIGTERM, signal.SIGTERM, 0.2), (signal.SIGINT, signal.SIGTERM, 0.2)):
         with tempfile.TemporaryDirectory() as folder:
-            found = signalled(program, ["-w", "copy"], cut, [(first, 0), (second, 0.4)], folder, has_part(folder, 24 + 35 * 100))
-            yield f"{second.name} after {first.name} kills", (found[:4], found[4] < 0.9, os.listdir(folder)), ((True, b"", "", -second), True, ["copy.part"])
+            found = signalled(program, ["-w", "copy"], cut, [(first, after), (second, 0.4)], folder, has_part(folder, 24 + 35 * 100))
+            yield (f"{second.name} after {first.name} kills", (found[:4], found[4] < 1.1, os.listdir(folder)),
+                   ((True, b"", "", -second), True, ["copy.part"]))
     yield "a second signal kills a run whose output nobody reads", partial(killed_writer, program), (-signal.SIGINT, b"")
     with tempfile.TemporaryDirectory() as folder:
         ignore = {"preexec_fn": lambda: signal.signal(signal.SIGINT, signal.SIG_IGN)}
@@ -332,7 +337,7 @@ def later(program):
         found = signalled(program, words, cut, [(signal.SIGINT, 0), (signal.SIGTERM, 0.2)], folder, ready, **ignore)
         yield "SIGTERM after an ignored SIGINT", (found[:4], contents(folder)), ((True, b"", BY_TERM, 143), {"copy": MANY[:24 + 35 * 100]})
     if which("timeout"):
-        yield "timeout, which sends its signal twice", partial(timed_out, program), [(124, b"", BY_TERM.encode(), {"copy": MANY[:24 + 35 * 100]})] * 10
+        yield "timeout, which sends its signal twice", partial(timed_out, program), [(124, b"", BY_TERM.encode(), {"copy": MANY[:24 + 35 * 100]})] * RUNS
 
 
 def killed_writer(program):
@@ -349,9 +354,9 @@ def killed_writer(program):
 
 
 def timed_out(program):
-    """Ten runs that `timeout` ends: the status, what is printed and said, and the files."""
+    """Some runs that `timeout` ends: the status, what is printed and said, and the files."""
     found = []
-    for _ in range(10):
+    for _ in range(RUNS):
         with tempfile.TemporaryDirectory() as folder:
             source, sink = os.pipe()
             os.write(sink, MANY[:24 + 35 * 100])

@@ -172,6 +172,7 @@ def besides(program):
         return
     for words in ([], ["in"]):
         yield f"interrupted reads and writes {words}", partial(interrupted, program, words, packed(CLASSIC[:59]) + packed(CLASSIC[59:])), (CLASSIC_LINES, "", 1)
+        yield f"many interrupted reads {words}", partial(interrupted, program, words, packed(NOISE)), partial(run_apart, program, [], NOISE)
 
 
 def read_by_tshark(program):
