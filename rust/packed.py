@@ -75,6 +75,8 @@ def alike(program):
     yield "a packed capture among others", partial(done, program, ["packed", "-", "packed"], packed(CLASSIC), files), (*third(text, CLASSIC_LINES), files)
     yield "one packet", partial(run_apart, program, ["-c", "1"], packed(CLASSIC)), (FIRST_LINES + "total frames 1 skipped 0\n", "", 1)
     yield "a packet that has come, of a capture that goes on", partial(first_packet, program), FIRST_LINES
+    yield "the first byte comes alone", partial(later, program, packed(CLASSIC)), (CLASSIC_LINES, 1)
+    yield "the first byte comes alone, and is not that of gzip", partial(later, program, CLASSIC), (CLASSIC_LINES, 1)
 
 
 def third(text, lines):
@@ -98,6 +100,15 @@ def copy_of(program, given):
     with tempfile.TemporaryDirectory() as folder:
         found = run_apart(program, ["-w", "copy"], given, cwd=folder)
         return contents_of(folder, "copy"), found
+
+
+def later(program, given):
+    """What is printed of bytes that come a while after the first of them, and the status."""
+    with subprocess.Popen([program], stdin=subprocess.PIPE, stdout=subprocess.PIPE, bufsize=0) as child:
+        child.stdin.write(given[:1])
+        time.sleep(0.3)
+        text = child.communicate(given[1:])[0].decode()
+    return text, child.returncode
 
 
 def first_packet(program):
