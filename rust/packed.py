@@ -43,7 +43,7 @@ def with_header(data):
 
 
 def flushed(parts, flush=zlib.Z_FULL_FLUSH):
-    """Packed bytes of each part, of which those of all but the last end at a byte; the last ones also end the stream."""
+    """The packed bytes of each part. They end at a whole byte; those of the last part also end the stream."""
     packer = zlib.compressobj(wbits=31)
     pieces = [packer.compress(it) + packer.flush(flush) for it in parts]
     return [*pieces[:-1], pieces[-1] + packer.flush()]
@@ -167,9 +167,9 @@ def damaged_block(program):
     return wanted.startswith(text) and 295 * walk <= len(text) <= 300 * walk, said, status
 
 
-# ---- besides
+# ---- progress and signals
 
-def besides(program):
+def progress(program):
     """What is shown of reading, and calls that signals interrupt."""
     given = packed(NOISE)
     with tempfile.TemporaryDirectory() as folder:
@@ -211,7 +211,7 @@ def main():
     words.add_argument("word", metavar="WORD", nargs="?", default="")
     given = words.parse_args()
     program = os.path.realpath(given.program)
-    return count((it for more in (alike, faults, besides, read_by_tshark) for it in more(program)), given.word)
+    return count((it for more in (alike, faults, progress, read_by_tshark) for it in more(program)), given.word)
 
 
 if __name__ == "__main__":

@@ -23,8 +23,8 @@ const PATIENCE: Duration = Duration::from_secs(1);
 /// How long further signals count as the first one: `timeout` sends it to its program, and then to all of the group.
 const SAME: Duration = Duration::from_millis(100);
 
-/// A run is short up to so many reads, none of which waits longer than `SHORT_WAIT`. In a short run each second signal
-/// has its default effect, so that no thread is needed.
+/// A run is short until it has read this many times, or has waited longer than `SHORT_WAIT` for a read. In a short run
+/// each second signal has its default effect, so that no thread is needed.
 const SHORT_RUN: u32 = 64;
 
 /// How long a read waits at most in a short run.

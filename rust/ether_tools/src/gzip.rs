@@ -8,7 +8,7 @@ const MAGIC: [u8; 2] = [0x1F, 0x8B];
 /// How many packed bytes are read at once.
 const ROOM: usize = 65_536;
 
-/// How many packed bytes are unpacked at once: where they are damaged, what these would give is lost.
+/// How many packed bytes are unpacked at once. If they are damaged, what they would give is lost.
 const PIECE: usize = 512;
 
 /// A reader whose bytes are unpacked, if they begin as those of gzip.
@@ -26,7 +26,7 @@ enum State<R> {
 }
 
 impl<R: Read> Unpacked<R> {
-    /// A reader of which nothing was read yet. Its first read must be of two bytes at least.
+    /// A reader that was not read yet. Its first read must have room for two bytes at least.
     pub fn new(stream: R) -> Self {
         Unpacked { state: State::New(Some(stream)) }
     }

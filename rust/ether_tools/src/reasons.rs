@@ -1,4 +1,4 @@
-//! What lines on standard error say besides what the run says. Written by hand, not proved.
+//! Reasons that are added to lines on standard error. Written by hand, not proved.
 use crate::ending::Ending;
 use std::cell::RefCell;
 use std::io::{self, Error, Read, Write};
