@@ -234,7 +234,7 @@ impl<'a> Ended<'a> {
 impl Read for Ended<'_> {
     fn read(&mut self, buf: &mut [u8]) -> io::Result<usize> {
         // of a file that was read to its end nothing is left unread
-        let may_end = self.kind == Kind::Regular && self.ending.is_asked();
+        let may_end = self.kind == Kind::Regular && !buf.is_empty() && self.ending.is_asked();
         if may_end && matches!(self.file.read(&mut buf[..1]), Ok(0)) {
             return Ok(0);
         }
