@@ -1,12 +1,13 @@
 //! The blocks of a section of a pcapng file, read in the order of the file.
-ghost use Rattle.std.specs.Prelude.{◌≡◌, ℕ, List, Some, None, IfOk, IfErr, MatchOption, if◌then◌else◌};
-ghost use Rattle.ether_pcap.specs.Capture.{InterfaceDescription as Description, SimplePacket as Simple, EnhancedPacket as Enhanced, Blocks, CaptureInterfaceValue, Describes, IsAt, HasNoInterface, IsBody, RefusesBody, kind_of_block, RefusesCapture, fcs_of};
+ghost use Rattle.std.specs.Prelude.{◌≡◌, ℕ, List, Some, IfSome, IfOk, IfErr, MatchOption, if◌then◌else◌};
+ghost use Rattle.ether_pcap.specs.Capture.{Begins, InterfaceDescription as Description, SimplePacket as Simple, EnhancedPacket as Enhanced, Blocks, CaptureInterfaceValue, Describes, IsAt, HasNoInterface, IsBody, RefusesBody, kind_of_block, RefusesCapture, fcs_of};
 ghost use Rattle.ether_pcap.specs.Section.{HasSectionType};
 ghost use Rattle.ether_pcap.specs.Views.{order_of};
 ghost use Rattle.ether_pcap.specs.CaptureViews.{captured_packet_view, capture_refusal_view, capture_interface_view, interfaces_view};
 ghost use Rattle.ether_pcap.specs.ReadUnits.{ReadsBody, ReadsUnit};
 ghost use Rattle.ether_pcap.specs.declared.capture.reader_state.ReaderState.TheVariants as states;
 
+use crate::capture::reader_state::begins_section;
 use crate::pcapng::enhanced_packet::packet_of_body;
 use crate::{
     ByteOrder, CaptureError, CaptureInterface, CapturedPacket, DescribedInterfaces, PcapngBlock,
@@ -36,6 +37,41 @@ pub(crate) fn read_block<'a, I: DescribedInterfaces>(
             content,
         }),
         Err(error) => Err(error),
+    }
+}
+
+/// Reads the block at the front of a slice, if it is an enhanced packet: its length and its packet. Returns `None` for
+/// another block.
+#[inline(always)]
+pub(crate) fn read_enhanced_packet<'a, I: DescribedInterfaces>(
+    byte_order: ByteOrder,
+    interfaces: &I,
+    bytes: &'a [u8],
+) -> Result<Option<(usize, CapturedPacket<'a>)>, CaptureError>
+    ensures packet { IfOk result (λ found. IfSome found (λ r. (most : ℕ) → Begins bytes.now
+        (Blocks most (order_of byte_order) (interfaces_view (I.items interfaces.now)))
+        r.0
+        (Some (captured_packet_view r.1))
+        (Blocks most (order_of byte_order) (interfaces_view (I.items interfaces.now))))) }
+    ensures refused { IfErr result (λ e. (most : ℕ) → RefusesCapture bytes.now
+        (Blocks most (order_of byte_order) (interfaces_view (I.items interfaces.now)))
+        (capture_refusal_view e)) }
+{
+    if begins_section(bytes) {
+        return Ok(None);
+    }
+    let block = match PcapngBlock::from_slice(byte_order, bytes) {
+        Ok(block) => block,
+        Err(error) => return Err(CaptureError::Block(error)),
+    };
+    match block.block_type {
+        PcapngBlock::ENHANCED_PACKET => {
+            match enhanced_packet(byte_order, interfaces, true, block.body) {
+                Ok(packet) => Ok(Some((block.block_len(), packet))),
+                Err(error) => Err(error),
+            }
+        }
+        _ => Ok(None),
     }
 }
 

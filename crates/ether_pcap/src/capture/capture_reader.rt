@@ -7,7 +7,9 @@ ghost use Rattle.ether_pcap.specs.Editing.{EditsUnit, HasEditedPacket, padding_o
 ghost use Rattle.ether_pcap.specs.CaptureViews.{captured_packet_view, capture_refusal_view};
 ghost use Rattle.ether_pcap.specs.ReadUnits.{HasRoom, IsFull, interfaces_after, packet_in, state_after};
 
+use crate::capture::capture_blocks::read_enhanced_packet;
 use crate::capture::described_interfaces::InterfaceSlice;
+use crate::capture::reader_state::read_record;
 use crate::{
     CaptureError, CaptureUnit, CapturedPacket, CopiedUnit, CopyMode, EditedUnit, InterfaceTable,
     ReaderState, UnitContent,
@@ -149,7 +151,33 @@ impl<T: InterfaceTable> CaptureReader<T> {
         ensures refused { IfErr result (λ e. RefusesCapture bytes.now self.old (capture_refusal_view e)) }
         ensures same { OnErr result (self.new ≡ self.old) }
     {
+        if let ReaderState::Classic(header) = &self.state {
+            let (len, packet) = read_record(header, bytes)?;
+            return Ok(CaptureUnit {
+                len,
+                packet: Some(packet),
+            });
+        }
+        self.read_other(bytes)
+    }
+
+    /// Does as `read`, for any unit. It is a function of its own so that records are read without its variables.
+    #[inline(never)]
+    fn read_other<'a>(&mut self, bytes: &'a [u8]) -> Result<CaptureUnit<'a>, CaptureError>
+        ensures unit { IfOk result (λ u. Begins bytes.now
+            self.old u.len (option_map captured_packet_view u.packet) self.new) }
+        ensures refused { IfErr result (λ e. RefusesCapture bytes.now self.old (capture_refusal_view e)) }
+        ensures same { OnErr result (self.new ≡ self.old) }
+    {
         let interfaces = InterfaceSlice(self.interfaces.interfaces());
+        if let ReaderState::Section(byte_order) = &self.state {
+            if let Some((len, packet)) = read_enhanced_packet(*byte_order, &interfaces, bytes)? {
+                return Ok(CaptureUnit {
+                    len,
+                    packet: Some(packet),
+                });
+            }
+        }
         let unit = self.state.read(&interfaces, bytes)?;
         if let UnitContent::Packet(packet) = unit.content {
             return Ok(CaptureUnit {

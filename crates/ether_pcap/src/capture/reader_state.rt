@@ -1,13 +1,12 @@
 //! How far a capture file was read, and the unit after that.
-ghost use Rattle.std.specs.Prelude.{ℕ, List, IfOk, IfErr, IsTrue, ◌↔◌};
-ghost use Rattle.ether_pcap.specs.Capture.{Records, RefusesCapture};
+ghost use Rattle.std.specs.Prelude.{ℕ, List, Some, IfOk, IfErr, IsTrue, ◌↔◌};
+ghost use Rattle.ether_pcap.specs.Capture.{Begins, Records, RefusesCapture};
 ghost use Rattle.ether_pcap.specs.Section.{HasSectionType};
-ghost use Rattle.ether_pcap.specs.CaptureViews.{capture_refusal_view, expectation_of};
+ghost use Rattle.ether_pcap.specs.CaptureViews.{capture_refusal_view, captured_packet_view, expectation_of};
 ghost use Rattle.ether_pcap.specs.Views.{file_header_view};
 ghost use Rattle.ether_pcap.specs.ReadUnits.{IsNotClassic, ReadsUnit};
 ghost use Rattle.ether_pcap.specs.declared.capture.capture_interface.CaptureInterface.{CaptureInterface};
 ghost use Rattle.ether_pcap.specs.declared.capture.reader_state.ReaderState.{ReaderState};
-ghost use Rattle.ether_pcap.specs.declared.capture.reader_state.ReaderState.TheVariants as states;
 
 use crate::capture::capture_blocks::read_block;
 use crate::{
@@ -69,7 +68,9 @@ impl ReaderState {
             (expectation_of most self.now (I.items interfaces.now)) (capture_refusal_view e)) }
     {
         if let ReaderState::Classic(header) = self {
-            return read_record(header, bytes);
+            let (len, packet) = read_record(header, bytes)?;
+            let content = UnitContent::Packet(packet);
+            return Ok(ReadUnit { len, content });
         }
         if begins_section(bytes) {
             return read_section(bytes);
@@ -112,12 +113,18 @@ fn read_section<'a>(bytes: &'a [u8]) -> Result<ReadUnit<'a>, CaptureError>
     }
 }
 
-/// Reads the record at the front of a slice.
+/// Reads the record at the front of a slice: its length and its packet.
 #[inline(always)]
 #[tactic(auto, using(crate::specs::Capture::file_record_refused))]
-fn read_record<'a>(header: &FileHeader, bytes: &'a [u8]) -> Result<ReadUnit<'a>, CaptureError>
-    ensures unit { IfOk result (λ u. (interfaces : List CaptureInterface) → ReadsUnit bytes.now
-        (states.Classic header.now) interfaces u) }
+pub(crate) fn read_record<'a>(
+    header: &FileHeader,
+    bytes: &'a [u8],
+) -> Result<(usize, CapturedPacket<'a>), CaptureError>
+    ensures record { IfOk result (λ r. Begins bytes.now
+        (Records (file_header_view header.now))
+        r.0
+        (Some (captured_packet_view r.1))
+        (Records (file_header_view header.now))) }
     ensures refused { IfErr result (λ e. RefusesCapture bytes.now
         (Records (file_header_view header.now))
         (capture_refusal_view e)) }
@@ -127,16 +134,14 @@ fn read_record<'a>(header: &FileHeader, bytes: &'a [u8]) -> Result<ReadUnit<'a>,
         Err(error) => return Err(CaptureError::Record(error)),
     };
     let time = Timestamp::from_nanoseconds(record.nanoseconds(header.resolution));
-    Ok(ReadUnit {
-        len: record.record_len(),
-        content: UnitContent::Packet(CapturedPacket {
-            time: Some(time),
-            interface: None,
-            original_len: record.original_len,
-            link_type: header.link_type,
-            snap_len: header.snap_len,
-            fcs_len: header.fcs_len,
-            packet: record.packet,
-        }),
-    })
+    let packet = CapturedPacket {
+        time: Some(time),
+        interface: None,
+        original_len: record.original_len,
+        link_type: header.link_type,
+        snap_len: header.snap_len,
+        fcs_len: header.fcs_len,
+        packet: record.packet,
+    };
+    Ok((record.record_len(), packet))
 }

@@ -1,5 +1,6 @@
 //! The blocks of a section of a pcapng file, read in the order of the file.
 
+use crate::ether_pcap::capture::reader_state::begins_section;
 use crate::ether_pcap::pcapng::enhanced_packet::packet_of_body;
 use crate::ether_pcap::{
     ByteOrder, CaptureError, CaptureInterface, CapturedPacket, DescribedInterfaces, PcapngBlock,
@@ -23,6 +24,32 @@ pub(in crate::ether_pcap) fn read_block<'a, I: DescribedInterfaces>(
             content,
         }),
         Err(error) => Err(error),
+    }
+}
+
+/// Reads the block at the front of a slice, if it is an enhanced packet: its length and its packet. Returns `None` for
+/// another block.
+#[inline(always)]
+pub(in crate::ether_pcap) fn read_enhanced_packet<'a, I: DescribedInterfaces>(
+    byte_order: ByteOrder,
+    interfaces: &I,
+    bytes: &'a [u8],
+) -> Result<Option<(usize, CapturedPacket<'a>)>, CaptureError> {
+    if begins_section(bytes) {
+        return Ok(None);
+    }
+    let block = match PcapngBlock::from_slice(byte_order, bytes) {
+        Ok(block) => block,
+        Err(error) => return Err(CaptureError::Block(error)),
+    };
+    match block.block_type {
+        PcapngBlock::ENHANCED_PACKET => {
+            match enhanced_packet(byte_order, interfaces, true, block.body) {
+                Ok(packet) => Ok(Some((block.block_len(), packet))),
+                Err(error) => Err(error),
+            }
+        }
+        _ => Ok(None),
     }
 }
 

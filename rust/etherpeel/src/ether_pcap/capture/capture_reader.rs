@@ -1,6 +1,8 @@
 //! A reader of capture files of either format, one unit at a time.
 
+use crate::ether_pcap::capture::capture_blocks::read_enhanced_packet;
 use crate::ether_pcap::capture::described_interfaces::InterfaceSlice;
+use crate::ether_pcap::capture::reader_state::read_record;
 use crate::ether_pcap::{
     CaptureError, CaptureUnit, CapturedPacket, CopiedUnit, CopyMode, EditedUnit, InterfaceTable,
     ReaderState, UnitContent,
@@ -203,7 +205,28 @@ impl<T: InterfaceTable> CaptureReader<T> {
     /// Does as `read`.
     #[inline(always)]
     fn read_unit<'a>(&mut self, bytes: &'a [u8]) -> Result<CaptureUnit<'a>, CaptureError> {
+        if let ReaderState::Classic(header) = &self.state {
+            let (len, packet) = read_record(header, bytes)?;
+            return Ok(CaptureUnit {
+                len,
+                packet: Some(packet),
+            });
+        }
+        self.read_other(bytes)
+    }
+
+    /// Does as `read`, for any unit. It is a function of its own so that records are read without its variables.
+    #[inline(never)]
+    fn read_other<'a>(&mut self, bytes: &'a [u8]) -> Result<CaptureUnit<'a>, CaptureError> {
         let interfaces = InterfaceSlice(self.interfaces.interfaces());
+        if let ReaderState::Section(byte_order) = &self.state {
+            if let Some((len, packet)) = read_enhanced_packet(*byte_order, &interfaces, bytes)? {
+                return Ok(CaptureUnit {
+                    len,
+                    packet: Some(packet),
+                });
+            }
+        }
         let unit = self.state.read(&interfaces, bytes)?;
         if let UnitContent::Packet(packet) = unit.content {
             return Ok(CaptureUnit {

@@ -77,7 +77,9 @@ impl ReaderState {
         bytes: &'a [u8],
     ) -> Result<ReadUnit<'a>, CaptureError> {
         if let ReaderState::Classic(header) = self {
-            return read_record(header, bytes);
+            let (len, packet) = read_record(header, bytes)?;
+            let content = UnitContent::Packet(packet);
+            return Ok(ReadUnit { len, content });
         }
         if begins_section(bytes) {
             return read_section(bytes);
@@ -113,24 +115,25 @@ fn read_section<'a>(bytes: &'a [u8]) -> Result<ReadUnit<'a>, CaptureError> {
     }
 }
 
-/// Reads the record at the front of a slice.
+/// Reads the record at the front of a slice: its length and its packet.
 #[inline(always)]
-fn read_record<'a>(header: &FileHeader, bytes: &'a [u8]) -> Result<ReadUnit<'a>, CaptureError> {
+pub(in crate::ether_pcap) fn read_record<'a>(
+    header: &FileHeader,
+    bytes: &'a [u8],
+) -> Result<(usize, CapturedPacket<'a>), CaptureError> {
     let record = match PcapRecord::from_slice(header, bytes) {
         Ok(record) => record,
         Err(error) => return Err(CaptureError::Record(error)),
     };
     let time = Timestamp::from_nanoseconds(record.nanoseconds(header.resolution));
-    Ok(ReadUnit {
-        len: record.record_len(),
-        content: UnitContent::Packet(CapturedPacket {
-            time: Some(time),
-            interface: None,
-            original_len: record.original_len,
-            link_type: header.link_type,
-            snap_len: header.snap_len,
-            fcs_len: header.fcs_len,
-            packet: record.packet,
-        }),
-    })
+    let packet = CapturedPacket {
+        time: Some(time),
+        interface: None,
+        original_len: record.original_len,
+        link_type: header.link_type,
+        snap_len: header.snap_len,
+        fcs_len: header.fcs_len,
+        packet: record.packet,
+    };
+    Ok((record.record_len(), packet))
 }

@@ -5,8 +5,8 @@ use Rattle.ether_pcap.specs.CaptureViews.{timestamp_view}
 use Rattle.ether_pcap.proofs.Captures.{record_unit}
 use Rattle.ether_pcap.proofs.capture.reader_state.read_record.Goals as goal
 
-pub returns-clause-unit : goal.returns-clause-unit
-returns-clause-unit c interfaces =
+pub returns-clause-record : goal.returns-clause-record
+returns-clause-record c =
     let h = file_header_view c.args.header.now in
     let r = record_view c.in-Ok.record in
     let t = c.from_nanoseconds-time.ensures ∙ ap time_of c.nanoseconds.ensures in
@@ -29,8 +29,4 @@ returns-clause-unit c interfaces =
       fcs_len = h.fcs_len;
       packet = r.packet;
     } in
-    record {
-      unit = λ most room.
-          record_unit c.args.bytes.now h r c.record_len.result _ c.in-Ok.ensures.record c.record_len.ensures e;
-      full = λ most full. absurd full;
-    }
+    record_unit c.args.bytes.now h r c.record_len.result _ c.in-Ok.ensures.record c.record_len.ensures e
