@@ -1,5 +1,5 @@
 -- What the calls about filters do.
-use Rattle.std.specs.Prelude.{◌≡◌, ◌⊎◌, ℕ, List, take, Result, IfOk, IfErr}
+use Rattle.std.specs.Prelude.{◌≡◌, ◌⊎◌, ℕ, List, take, true, false, Some, None, Result, IfOk, IfErr}
 use Rattle.etherparse.specs.Header.{Header}
 use Rattle.ether_peel.specs.Grammar.Stack.{Ending, Walk}
 use Rattle.ether_peel.specs.Walker.Start.{start_of}
@@ -21,7 +21,7 @@ use Rattle.ether_c.specs.declared.ether_filter_error.EtherFilterError.{EtherFilt
 use Rattle.ether_c.specs.Numbers.{done, no_text}
 use Rattle.ether_c.specs.Calls.{PutsBytes}
 use Rattle.ether_c.specs.Puts.{PutsEach}
-use Rattle.ether_c.specs.Selection.{IsMark}
+use Rattle.ether_c.specs.Selection.{IsMark, decision_number}
 
 -- ---- refusals
 
@@ -94,11 +94,11 @@ pub record GivesFilter (text : List ℕ) (old new : EtherFilter) (error_old erro
 
 -- ---- frames
 
--- what an expression decides for a frame
+-- the number of what an expression decides for a frame
 abbrev pub decided_number : Decision → ℕ
-decided_number decisions.Fails = 0
-decided_number decisions.Matches = 1
-decided_number (decisions.Needs n) = 2
+decided_number decisions.Fails = decision_number (Some false)
+decided_number decisions.Matches = decision_number (Some true)
+decided_number (decisions.Needs n) = decision_number None
 
 -- the length that it needs; 0 if the frame decides
 abbrev pub needed_len : Decision → ℕ

@@ -5,6 +5,7 @@ ghost use Rattle.ether_c.specs.Starts.{IsUnknown, IsUnknownStart, OfStart};
 ghost use Rattle.ether_c.specs.Filters.{GivesDecision, IsFilterOf};
 
 use crate::EtherFilter;
+use crate::filtering::UNDECIDED;
 use crate::numbers::start_of;
 use crate::statuses::{DONE, UNKNOWN_START};
 use ether_filter::{Decision, Packet, filter_program};
@@ -46,7 +47,7 @@ pub extern "C" fn etherpeel_filter_frame(
     (*decision, *needed) = match filter_program::decide(filter.program(), &packet) {
         Decision::Fails => (0, 0),
         Decision::Matches => (1, 0),
-        Decision::Needs(len) => (2, len),
+        Decision::Needs(len) => (UNDECIDED, len),
     };
     DONE
 }

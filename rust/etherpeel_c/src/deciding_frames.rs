@@ -1,6 +1,7 @@
 //! Decides whether a filter selects a frame, and how many of its bytes decide it.
 
 use crate::EtherFilter;
+use crate::filtering::UNDECIDED;
 use crate::numbers::start_of;
 use crate::statuses::{DONE, UNKNOWN_START};
 use etherpeel::ether_filter::{Decision, Packet, filter_program};
@@ -50,7 +51,7 @@ pub unsafe extern "C" fn etherpeel_filter_frame(
     (*decision, *needed) = match filter_program::decide(filter.program(), &packet) {
         Decision::Fails => (0, 0),
         Decision::Matches => (1, 0),
-        Decision::Needs(len) => (2, len),
+        Decision::Needs(len) => (UNDECIDED, len),
     };
     DONE
 }

@@ -6,9 +6,8 @@ use crate::{EtherCaptured, EtherFilter, EtherFilterError};
 use etherpeel::ether_content::program::decide;
 use etherpeel::ether_filter::Filter;
 
-/// What `etherpeel_filter_decide` returns if the captured bytes of a packet do not decide whether the filter selects
-/// it.
-const UNDECIDED: u32 = 2;
+/// What is returned or written if the captured bytes of a packet do not decide whether a filter selects it.
+pub(crate) const UNDECIDED: u32 = 2;
 
 /// Reads the text of a filter into memory of the caller.
 ///
