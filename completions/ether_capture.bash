@@ -19,7 +19,7 @@ _ether_capture() {
 
     case "${cmd}" in
         ether_capture)
-            opts="-r -c -w -h -V --progress --plain --header --stats --write --cut-to-headers --pop-vlan --select --undecided --limit --format --fields --push-vlan --set-vlan --help --version [file]..."
+            opts="-r -c -w -h -V --progress --plain --header --stats --write --cut-to-headers --pop-vlan --select --undecided --limit --format --fields --status-on-fault --push-vlan --set-vlan --help --version [file]..."
             if [[ ${cur} == -* || ${COMP_CWORD} -eq 1 ]] ; then
                 COMPREPLY=( $(compgen -W "${opts}" -- "${cur}") )
                 return 0
@@ -51,6 +51,10 @@ _ether_capture() {
                     ;;
                 --fields)
                     COMPREPLY=($(compgen -f "${cur}"))
+                    return 0
+                    ;;
+                --status-on-fault)
+                    COMPREPLY=($(compgen -W "yes no" -- "${cur}"))
                     return 0
                     ;;
                 -w)

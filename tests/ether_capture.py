@@ -30,7 +30,7 @@ from counts import examples as counts
 from formats import examples
 from programs import count, on_a_full_disk, run, run_apart, run_until_a_fault, without_memory
 
-USAGE = ("usage: ether_capture [[--plain | --format lines|brief|json | --fields COLUMNS [--header] | --stats [--fields COLUMNS] [--format json]] [--limit N] | --write [-w COPY] [--cut-to-headers | --pop-vlan | --push-vlan TPID:ID | --set-vlan A:B]] "
+USAGE = ("usage: ether_capture [[--plain | --format lines|brief|json | --fields COLUMNS [--header] | --stats [--fields COLUMNS] [--format json]] [--limit N] [--status-on-fault yes|no] | --write [-w COPY] [--cut-to-headers | --pop-vlan | --push-vlan TPID:ID | --set-vlan A:B]] "
          "[--select EXPR [--undecided keep|drop]] [-c N] [--progress] [-r FILE | FILE..]\n")
 
 
@@ -52,6 +52,12 @@ UNEQUAL[44] = 0x18
 CASES = [
     Case("a classic capture", [], CLASSIC, CLASSIC_LINES, 1),
     Case("its walks alone", ["--plain"], CLASSIC, plain(CLASSIC_LINES), 1),
+    Case("faults that are a failure", ["--status-on-fault", "yes"], CLASSIC, CLASSIC_LINES, 1),
+    Case("faults that are none", ["--status-on-fault", "no"], CLASSIC, CLASSIC_LINES, 0),
+    Case("walks whose faults are none", ["--plain", "--status-on-fault=no"], CLASSIC, plain(CLASSIC_LINES), 0),
+    Case("faults of a column that are none", ["--fields", "fault.kind", "--status-on-fault", "no"], CLASSIC, "length\n\n", 0),
+    Case("a file that is not there, though faults are none", ["--status-on-fault", "no", "no/such.pcap"], CLASSIC, "", 4,
+         "no/such.pcap" + NO_FILE),
     Case("frames with a check sequence", [], WITH_FCS, FCS_LINES, 0),
     Case("their walks alone", ["--plain"], WITH_FCS, plain(FCS_LINES), 0),
     Case("two sections", [], SECTIONS, SECTION_LINES, 1),
@@ -308,6 +314,7 @@ EXPECTED = {
     "--limit": "a number up to 4294967295",
     "--format": "lines, brief or json",
     "--fields": "at most 32 columns, as vlan.vid,eth.src",
+    "--status-on-fault": "yes or no",
     "--undecided": "keep or drop",
     "--push-vlan": "a TPID of VLAN tags and an identifier up to 4095, as 0x8100:5",
     "--set-vlan": "two identifiers up to 4095, as 5:6",
@@ -401,6 +408,8 @@ WRONG = [
     ("another identifier and a tag less", ["--write", "--set-vlan", "5:6", "--pop-vlan"], EDITS),
     ("a tag more and another identifier", ["--write", "--push-vlan", "0x8100:5", "--set-vlan", "5:6"], EDITS),
     ("undecided packets that are neither kept nor dropped", ["--select", "vlan", "--undecided", "maybe"], expected("--undecided", "maybe")),
+    ("a status on faults that is neither", ["--status-on-fault", "maybe"], expected("--status-on-fault", "maybe")),
+    ("a status on faults without a value", ["--status-on-fault"], missing("--status-on-fault")),
     ("undecided packets without a filter", ["--undecided", "keep"], lacking("--undecided", "--select")),
     ("undecided packets of a file without a filter", ["--undecided", "keep", "a.pcap"], lacking("--undecided", "--select")),
     ("a file beside that of -r", ["-r", "one", "two", "three"], surplus("two")),

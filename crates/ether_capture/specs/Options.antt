@@ -17,7 +17,7 @@ use Rattle.ether_format.specs.declared.format.Format.{Format}
 use Rattle.ether_format.specs.declared.format.Format.TheVariants.{Brief, Fields, Json}
 use Rattle.ether_format.specs.Columns.{ColumnValue, columns_view, common_columns, original_column}
 use Rattle.ether_format.specs.declared.columns.Columns.{Columns}
-use Rattle.ether_stream.specs.OptionValues.{AreFields, AreWrongFields, IsCount, IsFormat, IsIfAny, IsLimit, IsOneEdit, IsSelection, IsWrongEdit, MeansUndecided}
+use Rattle.ether_stream.specs.OptionValues.{AreFields, AreWrongFields, IsCount, IsFormat, IsIfAny, IsLimit, IsOneEdit, IsSelection, IsWrongEdit, MeansAnswer, MeansUndecided}
 use Rattle.ether_stream.specs.Usage.{IsWrongValue}
 use Rattle.ether_pcap.specs.CopiedUnits.{ModeValue, Exact, Changed}
 use Rattle.ether_stream.specs.Copying.{growth_if}
@@ -117,6 +117,7 @@ pub record AskedValue : Type 0 where
   pub edit : Option EditValue
   pub text : Option Text
   pub undecided : Option Undecided
+  pub status_on_fault : Option Bool
   pub count : Option ℕ
   pub limit : Option ℕ
   pub format : Option Format
@@ -157,6 +158,7 @@ pub record Asks (rows : List Row) (a : AskedValue) : Type 0 where
   pub edit : IsEdit rows a.edit
   pub text : a.text ≡ first_of (codes "select") rows
   pub undecided : IsIfAny MeansUndecided (first_of (codes "undecided") rows) a.undecided
+  pub status_on_fault : IsIfAny MeansAnswer (first_of (codes "status-on-fault") rows) a.status_on_fault
   pub count : IsIfAny IsCount (first_of (codes "count") rows) a.count
   pub limit : IsIfAny IsLimit (first_of (codes "limit") rows) a.limit
   pub format : IsFormat (first_of (codes "format") rows) a.format
@@ -285,10 +287,20 @@ IsFaultOf a usages.InputTwice = names_input_twice a.files ≡ true
 IsFaultOf a usages.Clash = clashes a ≡ true
 IsFaultOf a usage = ⊥
 
+-- faults of headers are no failure
+abbrev pub excuses : (status_on_fault : Option Bool) → Bool
+excuses (Some false) = true
+excuses answer = false
+
 -- which lines are asked for; those of another format have no totals
 abbrev pub options_of : AskedValue → LineOptions
-options_of a =
-    record { is_plain = a.plain || is_some (format_asked a); format = format_asked a; limit = a.limit; before = None }
+options_of a = record {
+  is_plain = a.plain || is_some (format_asked a);
+  format = format_asked a;
+  limit = a.limit;
+  before = None;
+  excuses = excuses a.status_on_fault;
+}
 
 -- a copy is exact if all packets are copied, and none is edited; else it is another capture, in which packets may have
 -- grown
@@ -367,6 +379,10 @@ pub data MeansNothing (rows : List Row) : Usage → Type 0 where
   wrong_undecided : (usage : Usage)
       → ((u : Option Undecided) → ¬ (IsIfAny MeansUndecided (first_of (codes "undecided") rows) u))
       → IsWrongValue value_options.Undecided (first_of (codes "undecided") rows) usage → MeansNothing rows usage
+  wrong_status_on_fault : (usage : Usage)
+      → ((b : Option Bool) → ¬ (IsIfAny MeansAnswer (first_of (codes "status-on-fault") rows) b))
+      → IsWrongValue value_options.StatusOnFault (first_of (codes "status-on-fault") rows) usage
+      → MeansNothing rows usage
 
 -- .. or options and names do not fit together
 pub record NamesFault (words : List Text) (usage : Usage) : Type 0 where
@@ -408,6 +424,7 @@ asked_view asked = record {
   edit = option_map edit_view asked.edit;
   text = option_map (λ s. s.now) asked.text;
   undecided = asked.undecided;
+  status_on_fault = asked.status_on_fault;
   count = option_map non_zero_usize_get asked.count;
   limit = asked.limit;
   format = asked.format;

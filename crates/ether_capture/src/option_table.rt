@@ -67,7 +67,7 @@ pub(crate) fn all_options() -> &'static [OptionRow<&'static str>]
 }
 
 /// The table of options, in the order of the help.
-pub static OPTIONS: [OptionRow<&str>; 19] = [
+pub static OPTIONS: [OptionRow<&str>; 20] = [
     OptionRow {
         name: "read",
         spelling: Spelling::Letter('r'),
@@ -144,6 +144,13 @@ pub static OPTIONS: [OptionRow<&str>; 19] = [
         value: None,
         group: "Lines",
         help: "count packets and bytes by the values of COLUMNS, or without --fields of headers, VLANs, types, faults and ARP senders",
+    },
+    OptionRow {
+        name: "status-on-fault",
+        spelling: Spelling::Name,
+        value: Some("yes|no"),
+        group: "Lines",
+        help: "exit with 1 if headers of a packet are wrong or cut: yes, as ever, or no",
     },
     OptionRow {
         name: "write",

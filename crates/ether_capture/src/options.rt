@@ -13,7 +13,10 @@ use crate::wrong_words::usage_of;
 use clap::error::ErrorKind;
 use clap::{Arg, ArgAction, ArgMatches, Command};
 use ether_content::PacketEdit;
-use ether_stream::{Usage, count_of, edit_of_words, fields_of, format_of, limit_of, undecided_of};
+use ether_stream::{
+    Usage, count_of, edit_of_words, fields_of, format_of, limit_of, status_on_fault_of,
+    undecided_of,
+};
 use std::alloc::{AllocError, Global};
 use std::env;
 
@@ -124,6 +127,7 @@ impl<'a> Asked<'a> {
         let fields = fields_of(text_of(matches, "fields"))?;
         let is_counted = is_set(matches, "stats");
         let undecided = undecided_of(text_of(matches, "undecided"))?;
+        let status_on_fault = status_on_fault_of(text_of(matches, "status-on-fault"))?;
         let files = names_of(matches, alloc)?;
         Ok(Asked {
             is_plain: is_set(matches, "plain"),
@@ -134,6 +138,7 @@ impl<'a> Asked<'a> {
             edit,
             text: text_of(matches, "select"),
             undecided,
+            status_on_fault,
             count,
             limit,
             format,

@@ -5,7 +5,7 @@ ghost use Rattle.std.specs.Option.{is_some, option_map};
 ghost use Rattle.ether_pcap.specs.CopiedUnits.{copy_mode_view};
 ghost use Rattle.ether_stream.specs.Copying.{growth_if};
 ghost use Rattle.ether_stream.specs.Task.{form_view};
-ghost use Rattle.ether_capture.specs.Options.{AreCountedColumns, Fits, IsFaultOf, IsRequestOf, RefusesAsked, are_several, asked_view, edit_option, lacking, names_input, names_input_twice, surplus, clashes, clashes_in_columns, columns_asked, columns_in, is_brief, line_of, statistics_asked, statistics_in, statistics_of, form_of, format_asked, heading_of, mode_of, options_of, request_view, input_of, makes_copy, named, output_of, selection_of};
+ghost use Rattle.ether_capture.specs.Options.{AreCountedColumns, Fits, IsFaultOf, IsRequestOf, RefusesAsked, are_several, asked_view, edit_option, excuses, lacking, names_input, names_input_twice, surplus, clashes, clashes_in_columns, columns_asked, columns_in, is_brief, line_of, statistics_asked, statistics_in, statistics_of, form_of, format_asked, heading_of, mode_of, options_of, request_view, input_of, makes_copy, named, output_of, selection_of};
 
 use crate::statistics_format::StatisticsFormat;
 use ether_content::PacketEdit;
@@ -105,6 +105,7 @@ pub(crate) struct Asked<'a> {
     pub(crate) edit: Option<PacketEdit>,
     pub(crate) text: Option<&'a str>,
     pub(crate) undecided: Option<Undecided>,
+    pub(crate) status_on_fault: Option<bool>,
     pub(crate) count: Option<NonZeroUsize>,
     pub(crate) limit: Option<usize>,
     pub(crate) format: Option<Format>,
@@ -354,6 +355,13 @@ impl<'a> Asked<'a> {
         }
     }
 
+    /// Tests that faults of headers are no failure.
+    fn excuses(&self) -> bool
+        ensures { result ≡ excuses (asked_view self.now).status_on_fault }
+    {
+        matches!(self.status_on_fault, Some(false))
+    }
+
     /// Which lines are asked for.
     fn options(&self) -> LineOptions
         ensures { result ≡ options_of (asked_view self.now) }
@@ -363,6 +371,7 @@ impl<'a> Asked<'a> {
             format: self.format(),
             limit: self.limit,
             before: None,
+            excuses: self.excuses(),
         }
     }
 }

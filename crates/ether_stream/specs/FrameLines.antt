@@ -1,5 +1,5 @@
 -- The lines of a captured packet: one for the packet itself, and those of the walk through its headers.
-use Rattle.std.specs.Prelude.{◌≡◌, ℕ, ◌⊎◌, List, [], ◌∷◌, ◌++◌, length, codes, Bool, true, false, Option, Some, None, if◌then◌else◌}
+use Rattle.std.specs.Prelude.{◌||◌, ◌≡◌, ℕ, ◌⊎◌, List, [], ◌∷◌, ◌++◌, length, codes, Bool, true, false, Option, Some, None, if◌then◌else◌}
 use Rattle.std.specs.Fmt.{decimal}
 use Rattle.ether_base.specs.Formats.LinuxSll.{LinuxSllValue}
 use Rattle.ether_peel.specs.Grammar.Expectation.{EtherType}
@@ -76,8 +76,10 @@ abbrev pub HasLinesIn : Option Format → (options : LineOptions) → ℕ → Pa
 HasLinesIn None options number p text accepted = HasWalkLines options number p text accepted
 HasLinesIn (Some format) options number p text accepted = HasText format options.limit number p text accepted
 
+-- .. which is accepted if its walk ends without a fault, or if faults are excused
 abbrev pub HasLines : (options : LineOptions) → ℕ → PacketValue → (text : List ℕ) → (accepted : Bool) → Type 0
-HasLines options = HasLinesIn options.format options
+HasLines options number p text accepted =
+    (ends : Bool) × HasLinesIn options.format options number p text ends × (accepted ≡ ends || options.excuses)
 
 -- .. if it is chosen
 abbrev pub AnswersPacket : (select : Option Selection) → (options : LineOptions) → ℕ → PacketValue → (text : List ℕ)

@@ -13,7 +13,7 @@ use Rattle.ether_format.specs.declared.format.Format.{Format}
 use Rattle.ether_format.specs.declared.format.Format.TheVariants.{Json, Brief, Fields}
 use Rattle.ether_stream.specs.VlanOptions.{IsTagEdit}
 use Rattle.ether_stream.specs.Usage.{IsWrongValue}
-use Rattle.ether_stream.specs.declared.option_values.TheConstants.{BRIEF, DROP, JSON, KEEP, LINES}
+use Rattle.ether_stream.specs.declared.option_values.TheConstants.{BRIEF, DROP, JSON, KEEP, LINES, NO, YES}
 use Rattle.ether_stream.specs.declared.usage.Usage.{Usage}
 use Rattle.ether_stream.specs.declared.usage.Usage.TheVariants as usages
 use Rattle.ether_stream.specs.declared.usage.ValueOption.TheVariants as value_options
@@ -39,6 +39,11 @@ IsLimit text n = number_in text ≡ Some (Some n)
 abbrev pub MeansUndecided : List ℕ → Undecided → Type 0
 MeansUndecided text Kept = text ≡ KEEP.now
 MeansUndecided text Dropped = text ≡ DROP.now
+
+-- yes, or no
+abbrev pub MeansAnswer : List ℕ → Bool → Type 0
+MeansAnswer text true = text ≡ YES.now
+MeansAnswer text false = text ≡ NO.now
 
 -- the format of the text of packets, if it is another than lines
 abbrev pub IsFormat : Option (List ℕ) → Option Format → Type 0

@@ -1,6 +1,6 @@
 -- What is wrong with the words of a request.
 use Rattle.std.specs.Prelude.{◌≡◌, ℕ, List, ◌++◌, codes, Option, Some}
-use Rattle.ether_stream.specs.declared.messages.TheConstants.{CLASH, COLUMNS, COPIES, COUNT, CUT_TO_HEADERS, EDITS, FIELDS, FORMAT, FORMATS, HEADER, HEADERS, INPUT_TWICE, KEEP_OR_DROP, LIMIT, NO_COLUMN, NO_OPTION, NO_VALUE, PACKETS, POP_VLAN, PUSH_VLAN, PUSHED_TAG, SELECT, SET_VLAN, SURPLUS, TWICE, TWO_IDENTIFIERS, UNDECIDED}
+use Rattle.ether_stream.specs.declared.messages.TheConstants.{CLASH, COLUMNS, COPIES, COUNT, CUT_TO_HEADERS, EDITS, FIELDS, FORMAT, FORMATS, HEADER, HEADERS, INPUT_TWICE, KEEP_OR_DROP, LIMIT, NO_COLUMN, NO_OPTION, NO_VALUE, PACKETS, POP_VLAN, PUSH_VLAN, PUSHED_TAG, SELECT, SET_VLAN, STATUS_ON_FAULT, SURPLUS, TWICE, TWO_IDENTIFIERS, UNDECIDED, YES_OR_NO}
 use Rattle.ether_stream.specs.declared.usage.DependentOption.{DependentOption}
 use Rattle.ether_stream.specs.declared.usage.DependentOption.TheVariants as dependent
 use Rattle.ether_stream.specs.declared.usage.Usage.{Usage}
@@ -15,6 +15,7 @@ option_text value_options.SetVlan = SET_VLAN.now
 option_text value_options.Count = COUNT.now
 option_text value_options.Limit = LIMIT.now
 option_text value_options.Undecided = UNDECIDED.now
+option_text value_options.StatusOnFault = STATUS_ON_FAULT.now
 option_text value_options.Format = FORMAT.now
 option_text value_options.Fields = FIELDS.now
 
@@ -25,6 +26,7 @@ expected_text value_options.SetVlan = TWO_IDENTIFIERS.now
 expected_text value_options.Count = PACKETS.now
 expected_text value_options.Limit = HEADERS.now
 expected_text value_options.Undecided = KEEP_OR_DROP.now
+expected_text value_options.StatusOnFault = YES_OR_NO.now
 expected_text value_options.Format = FORMATS.now
 expected_text value_options.Fields = COLUMNS.now
 

@@ -5,7 +5,7 @@ ghost use Rattle.ether_pcap.specs.CaptureViews.{captured_packet_view, timestamp_
 ghost use Rattle.ether_content.specs.Content.{content_of};
 ghost use Rattle.ether_content.specs.ContentViews.{content_view};
 ghost use Rattle.ether_output.specs.OutputBuffer.{Takes, TakesAnswer};
-ghost use Rattle.ether_stream.specs.FrameLines.{is_skipped, time_text, mark, packet_line_if, HasLines, HasWalkLines, told, told_if, totals_line_if, totals_line_after};
+ghost use Rattle.ether_stream.specs.FrameLines.{is_skipped, time_text, mark, packet_line_if, HasLines, HasLinesIn, HasWalkLines, told, told_if, totals_line_if, totals_line_after};
 ghost use Rattle.ether_stream.specs.Packets.{counted};
 
 use crate::LineOptions;
@@ -18,8 +18,8 @@ use ether_pcap::{CapturedPacket, Timestamp};
 use ether_peel::Start;
 use ether_text::write_walk_after;
 
-/// Writes the text of a packet: its lines, or its text in another format. Returns whether the walk through its
-/// headers ends without a fault.
+/// Writes the text of a packet: its lines, or its text in another format. Returns whether the packet is accepted: the
+/// walk through its headers ends without a fault, or faults are excused.
 ///
 /// The packet has the number after `count`, which is read only if it is written.
 pub fn write_lines<W: Sink>(
@@ -30,6 +30,22 @@ pub fn write_lines<W: Sink>(
 ) -> bool
     ensures { TakesAnswer W.contents W.can_fail
         (HasLines options.now (counted (count.now + 1)) (captured_packet_view packet.now))
+        out.old out.new result }
+{
+    let has_no_fault = write_text(options, count, packet, out);
+    has_no_fault || options.excuses
+}
+
+/// Writes the text of a packet. Returns whether the walk through its headers ends without a fault.
+#[inline(always)]
+fn write_text<W: Sink>(
+    options: &LineOptions,
+    count: &usize,
+    packet: &CapturedPacket<'_>,
+    out: &mut OutputBuffer<'_, W>,
+) -> bool
+    ensures { TakesAnswer W.contents W.can_fail
+        (HasLinesIn options.now.format options.now (counted (count.now + 1)) (captured_packet_view packet.now))
         out.old out.new result }
 {
     match &options.format {

@@ -72,6 +72,8 @@ pub(crate) const SELECT: &str = "--select";
 
 pub(crate) const SET_VLAN: &str = "--set-vlan";
 
+pub(crate) const STATUS_ON_FAULT: &str = "--status-on-fault";
+
 pub(crate) const UNDECIDED: &str = "--undecided";
 
 /// The options that ask for a copy.
@@ -88,6 +90,8 @@ pub(crate) const PACKETS: &str = "a number from 1 to 4294967295";
 pub(crate) const HEADERS: &str = "a number up to 4294967295";
 
 pub(crate) const KEEP_OR_DROP: &str = "keep or drop";
+
+pub(crate) const YES_OR_NO: &str = "yes or no";
 
 pub(crate) const FORMATS: &str = "lines, brief or json";
 

@@ -1,5 +1,5 @@
 //! Words of a request.
-ghost use Rattle.std.specs.Prelude.{◌≡◌, ℕ, Some, IfOk, IfErr, OnErr, Option};
+ghost use Rattle.std.specs.Prelude.{◌≡◌, ℕ, Some, IfOk, IfErr, OnErr, Option, Bool};
 ghost use Rattle.std.specs.Int.NonZero.{non_zero_usize_get};
 ghost use Rattle.std.specs.Option.{option_map};
 ghost use Rattle.ether_content.specs.Editing.{EditValue};
@@ -8,7 +8,7 @@ ghost use Rattle.ether_stream.specs.declared.selection.Undecided.{Undecided as U
 ghost use Rattle.ether_format.specs.declared.columns.Columns.{Columns as ColumnsValue};
 ghost use Rattle.ether_format.specs.declared.format.Format.{Format as FormatValue};
 ghost use Rattle.ether_stream.specs.Usage.{IsWrongValue};
-ghost use Rattle.ether_stream.specs.OptionValues.{AreFields, AreWrongFields, IsCount, IsFormat, IsIfAny, IsLimit, IsOneEdit, IsSelection, IsWrongEdit, MeansUndecided, RefusesSelection};
+ghost use Rattle.ether_stream.specs.OptionValues.{AreFields, AreWrongFields, IsCount, IsFormat, IsIfAny, IsLimit, IsOneEdit, IsSelection, IsWrongEdit, MeansAnswer, MeansUndecided, RefusesSelection};
 
 use crate::selection::Undecided;
 use crate::usage::{Usage, ValueOption};
@@ -29,6 +29,11 @@ const LINES: &str = "lines";
 const BRIEF: &str = "brief";
 
 const JSON: &str = "json";
+
+/// The values of `--status-on-fault`.
+const YES: &str = "yes";
+
+const NO: &str = "no";
 
 /// The edit that options ask for, if any: to cut packets to their headers, to pop a VLAN tag, to push one, or to set
 /// an identifier.
@@ -110,6 +115,20 @@ pub fn undecided_of<'a>(text: Option<&'a str>) -> Result<Option<Undecided>, Usag
         Some(KEEP) => Ok(Some(Undecided::Kept)),
         Some(DROP) => Ok(Some(Undecided::Dropped)),
         Some(text) => Err(Usage::Value(ValueOption::Undecided, text)),
+    }
+}
+
+/// The value of `--status-on-fault`, if there is one: whether it is `yes` or `no`.
+pub fn status_on_fault_of<'a>(text: Option<&'a str>) -> Result<Option<bool>, Usage<'a>>
+    ensures ok { IfOk result (IsIfAny MeansAnswer (option_map (λ s. s.now) text.entry)) }
+    ensures err { OnErr result ((b : Option Bool) → ¬ (IsIfAny MeansAnswer (option_map (λ s. s.now) text.entry) b)) }
+    ensures usage { IfErr result (IsWrongValue ValueOption.StatusOnFault (option_map (λ s. s.now) text.entry)) }
+{
+    match text {
+        None => Ok(None),
+        Some(YES) => Ok(Some(true)),
+        Some(NO) => Ok(Some(false)),
+        Some(text) => Err(Usage::Value(ValueOption::StatusOnFault, text)),
     }
 }
 

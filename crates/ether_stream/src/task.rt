@@ -46,6 +46,8 @@ pub struct LineOptions {
     pub limit: Option<usize>,
     /// The number of packets in the captures before this one, if it is one of several; it then has no line of totals.
     pub before: Option<usize>,
+    /// Whether a packet is accepted although the walk through its headers ends in a fault.
+    pub excuses: bool,
 }
 
 impl LineOptions {
@@ -58,6 +60,7 @@ impl LineOptions {
             format: self.format,
             limit: self.limit,
             before: Some(packets),
+            excuses: self.excuses,
         }
     }
 }

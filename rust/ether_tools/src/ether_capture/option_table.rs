@@ -56,7 +56,7 @@ pub(in crate::ether_capture) fn all_options() -> &'static [OptionRow<&'static st
 }
 
 /// The table of options, in the order of the help.
-pub static OPTIONS: [OptionRow<&str>; 19] = [
+pub static OPTIONS: [OptionRow<&str>; 20] = [
     OptionRow {
         name: "read",
         spelling: Spelling::Letter('r'),
@@ -133,6 +133,13 @@ pub static OPTIONS: [OptionRow<&str>; 19] = [
         value: None,
         group: "Lines",
         help: "count packets and bytes by the values of COLUMNS, or without --fields of headers, VLANs, types, faults and ARP senders",
+    },
+    OptionRow {
+        name: "status-on-fault",
+        spelling: Spelling::Name,
+        value: Some("yes|no"),
+        group: "Lines",
+        help: "exit with 1 if headers of a packet are wrong or cut: yes, as ever, or no",
     },
     OptionRow {
         name: "write",

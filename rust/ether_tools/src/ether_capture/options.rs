@@ -2,7 +2,7 @@
 use crate::ether_capture::option_table::{OPTIONS, OptionRow, Spelling};
 use crate::ether_capture::request::{Asked, Request, RequestError, counted_of};
 use crate::ether_capture::wrong_words::usage_of;
-use crate::ether_stream::{Usage, count_of, edit_of_words, fields_of, format_of, limit_of, undecided_of};
+use crate::ether_stream::{Usage, count_of, edit_of_words, fields_of, format_of, limit_of, status_on_fault_of, undecided_of};
 use crate::ether_capture::memory::Global;
 use clap::error::ErrorKind;
 use clap::{Arg, ArgAction, ArgMatches, Command, ValueHint};
@@ -56,6 +56,7 @@ fn asked<'a>(matches: &ArgMatches, words: &'a [String]) -> Result<Asked<'a>, Usa
         edit: edit_of_words(cuts, pops, push, set)?,
         text: text_of(matches, words, "select"),
         undecided: undecided_of(text_of(matches, words, "undecided"))?,
+        status_on_fault: status_on_fault_of(text_of(matches, words, "status-on-fault"))?,
         count: count_of(text_of(matches, words, "count"))?,
         limit: limit_of(text_of(matches, words, "limit"))?,
         format: format_of(text_of(matches, words, "format"))?,

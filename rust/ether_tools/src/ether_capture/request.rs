@@ -93,6 +93,7 @@ pub(in crate::ether_capture) struct Asked<'a> {
     pub(in crate::ether_capture) edit: Option<PacketEdit>,
     pub(in crate::ether_capture) text: Option<&'a str>,
     pub(in crate::ether_capture) undecided: Option<Undecided>,
+    pub(in crate::ether_capture) status_on_fault: Option<bool>,
     pub(in crate::ether_capture) count: Option<NonZeroUsize>,
     pub(in crate::ether_capture) limit: Option<usize>,
     pub(in crate::ether_capture) format: Option<Format>,
@@ -302,6 +303,11 @@ impl<'a> Asked<'a> {
         }
     }
 
+    /// Tests that faults of headers are no failure.
+    fn excuses(&self) -> bool {
+        matches!(self.status_on_fault, Some(false))
+    }
+
     /// Which lines are asked for.
     fn options(&self) -> LineOptions {
         LineOptions {
@@ -309,6 +315,7 @@ impl<'a> Asked<'a> {
             format: self.format(),
             limit: self.limit,
             before: None,
+            excuses: self.excuses(),
         }
     }
 }

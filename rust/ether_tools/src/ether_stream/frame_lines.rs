@@ -10,8 +10,8 @@ use etherpeel::ether_pcap::{CapturedPacket, Timestamp};
 use etherpeel::ether_peel::Start;
 use crate::ether_text::write_walk_after;
 
-/// Writes the text of a packet: its lines, or its text in another format. Returns whether the walk through its
-/// headers ends without a fault.
+/// Writes the text of a packet: its lines, or its text in another format. Returns whether the packet is accepted: the
+/// walk through its headers ends without a fault, or faults are excused.
 ///
 /// The packet has the number after `count`, which is read only if it is written.
 ///
@@ -25,6 +25,18 @@ use crate::ether_text::write_walk_after;
 ///
 /// </details>
 pub fn write_lines<W: Sink>(
+    options: &LineOptions,
+    count: &usize,
+    packet: &CapturedPacket<'_>,
+    out: &mut OutputBuffer<'_, W>,
+) -> bool {
+    let has_no_fault = write_text(options, count, packet, out);
+    has_no_fault || options.excuses
+}
+
+/// Writes the text of a packet. Returns whether the walk through its headers ends without a fault.
+#[inline(always)]
+fn write_text<W: Sink>(
     options: &LineOptions,
     count: &usize,
     packet: &CapturedPacket<'_>,

@@ -72,6 +72,8 @@ pub(in crate::ether_stream) const SELECT: &str = "--select";
 
 pub(in crate::ether_stream) const SET_VLAN: &str = "--set-vlan";
 
+pub(in crate::ether_stream) const STATUS_ON_FAULT: &str = "--status-on-fault";
+
 pub(in crate::ether_stream) const UNDECIDED: &str = "--undecided";
 
 /// The options that ask for a copy.
@@ -88,6 +90,8 @@ pub(in crate::ether_stream) const PACKETS: &str = "a number from 1 to 4294967295
 pub(in crate::ether_stream) const HEADERS: &str = "a number up to 4294967295";
 
 pub(in crate::ether_stream) const KEEP_OR_DROP: &str = "keep or drop";
+
+pub(in crate::ether_stream) const YES_OR_NO: &str = "yes or no";
 
 pub(in crate::ether_stream) const FORMATS: &str = "lines, brief or json";
 

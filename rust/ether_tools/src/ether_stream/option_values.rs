@@ -20,6 +20,11 @@ const BRIEF: &str = "brief";
 
 const JSON: &str = "json";
 
+/// The values of `--status-on-fault`.
+const YES: &str = "yes";
+
+const NO: &str = "no";
+
 /// The edit that options ask for, if any: to cut packets to their headers, to pop a VLAN tag, to push one, or to set
 /// an identifier.
 ///
@@ -124,6 +129,26 @@ pub fn undecided_of<'a>(text: Option<&'a str>) -> Result<Option<Undecided>, Usag
         Some(KEEP) => Ok(Some(Undecided::Kept)),
         Some(DROP) => Ok(Some(Undecided::Dropped)),
         Some(text) => Err(Usage::Value(ValueOption::Undecided, text)),
+    }
+}
+
+/// The value of `--status-on-fault`, if there is one: whether it is `yes` or `no`.
+///
+/// <details><summary>Contract</summary>
+///
+/// ```text
+/// ensures ok { IfOk result (IsIfAny MeansAnswer (option_map (λ s. s.now) text.entry)) }
+/// ensures err { OnErr result ((b : Option Bool) → ¬ (IsIfAny MeansAnswer (option_map (λ s. s.now) text.entry) b)) }
+/// ensures usage { IfErr result (IsWrongValue ValueOption.StatusOnFault (option_map (λ s. s.now) text.entry)) }
+/// ```
+///
+/// </details>
+pub fn status_on_fault_of<'a>(text: Option<&'a str>) -> Result<Option<bool>, Usage<'a>> {
+    match text {
+        None => Ok(None),
+        Some(YES) => Ok(Some(true)),
+        Some(NO) => Ok(Some(false)),
+        Some(text) => Err(Usage::Value(ValueOption::StatusOnFault, text)),
     }
 }
 

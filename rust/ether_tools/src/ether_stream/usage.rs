@@ -3,7 +3,8 @@
 use crate::ether_stream::messages::{
     CLASH, COLUMNS, COPIES, COUNT, CUT_TO_HEADERS, EDITS, FIELDS, FORMAT, FORMATS, HEADER, HEADERS,
     INPUT_TWICE, KEEP_OR_DROP, LIMIT, NO_COLUMN, NO_OPTION, NO_VALUE, PACKETS, POP_VLAN, PUSH_VLAN,
-    PUSHED_TAG, SELECT, SET_VLAN, SURPLUS, TWICE, TWO_IDENTIFIERS, UNDECIDED,
+    PUSHED_TAG, SELECT, SET_VLAN, STATUS_ON_FAULT, SURPLUS, TWICE, TWO_IDENTIFIERS, UNDECIDED,
+    YES_OR_NO,
 };
 use std::fmt;
 
@@ -20,6 +21,8 @@ pub enum ValueOption {
     Limit,
     /// `--undecided`.
     Undecided,
+    /// `--status-on-fault`.
+    StatusOnFault,
     /// `--format`.
     Format,
     /// `--fields`.
@@ -35,6 +38,7 @@ impl ValueOption {
             ValueOption::Count => COUNT,
             ValueOption::Limit => LIMIT,
             ValueOption::Undecided => UNDECIDED,
+            ValueOption::StatusOnFault => STATUS_ON_FAULT,
             ValueOption::Format => FORMAT,
             ValueOption::Fields => FIELDS,
         }
@@ -48,6 +52,7 @@ impl ValueOption {
             ValueOption::Count => PACKETS,
             ValueOption::Limit => HEADERS,
             ValueOption::Undecided => KEEP_OR_DROP,
+            ValueOption::StatusOnFault => YES_OR_NO,
             ValueOption::Format => FORMATS,
             ValueOption::Fields => COLUMNS,
         }
