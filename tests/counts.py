@@ -61,7 +61,9 @@ vlan.pcp	5,0	1	24
     ("the first packet", TAGS, ["-c", "1", "--fields", "rest.type"], 0, "rest.type	0x0800	1	24\ntotal		1	24\n"),
     ("at a limit", TAGS, ["--limit", "1", "--fields", "headers.header"], 0,
      "headers.header	eth	2	30\nheaders.header	eth,vlan	1	24\ntotal		3	54\n"),
-    ("no packet", classic(), [], 0, ""),
+    ("no packet", classic(), [], 0, "total		0	0\n"),
+    ("packets that are not selected", ARP, ["--select", "vlan"], 0, "total		0	0\n"),
+    ("a header that is cut, which is no failure", classic(bytes(13)), ["--status-on-fault", "no"], 0, "fault.kind	length	1	13\ntotal		1	13\n"),
 ]
 
 
@@ -101,9 +103,11 @@ def files(program):
         found = run_apart(program, ["--stats", "--fields", "eth.src", *names], b"")
         absent = os.path.join(folder, "c.pcap")
         lacking = run_apart(program, ["--stats", "--fields", "eth.src", names[1], absent], b"")
+        nothing = run_apart(program, ["--stats", absent], b"")
     return [("counts of two captures", found, ("eth.src\t02:00:00:00:00:01\t4\t96\ntotal\t\t4\t96\n", "", 0)),
             ("counts without a file that is not there", lacking,
-             ("eth.src\t02:00:00:00:00:01\t1\t42\ntotal\t\t1\t42\n", f"{absent}: can't be opened: there is no such file\n", 4))]
+             ("eth.src\t02:00:00:00:00:01\t1\t42\ntotal\t\t1\t42\n", f"{absent}: can't be opened: there is no such file\n", 4)),
+            ("counts of no file", nothing, ("total\t\t0\t0\n", f"{absent}: can't be opened: there is no such file\n", 4))]
 
 
 def counted_by_tshark(program):

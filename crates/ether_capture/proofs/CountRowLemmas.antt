@@ -1,6 +1,6 @@
 -- A row whose fields are counted one after the other.
 use Rattle.std.proofs.Common.{◌≡◌, ℕ, ◌≤◌, List, [], ◌∷◌, ◌++◌, length, Option, Some, None, refl, sym, ap, subst, ◌∙◌, append_assoc, append-nil, arith}
-use Rattle.std.specs.Prelude.{◌^◌, ◌-◌, ◌≢◌, codes}
+use Rattle.std.specs.Prelude.{◌^◌, ◌-◌, ◌≢◌}
 use Rattle.ether_capture.specs.declared.count.Count.{Count}
 use Rattle.ether_capture.specs.KeyCounts.{CountHits, AddsHit, Hit}
 use Rattle.ether_stream.specs.Packets.{counted}
@@ -22,19 +22,17 @@ module _ (heading row : List ℕ) (bytes : ℕ) where
     pub parts : done ++ hits_under bytes (keys_in (fields_if columns) (fields_if fields)) ≡ row_hits heading row
 
   pub begins_row : (hits : List Hit) (column len : List ℕ) (columns fields : Option (List ℕ))
-      (old new : List ℕ → Option Count)
+      (table : List ℕ → Option Count)
       → bytes ≡ counted (decimal_value 0 len)
-      → row_fields heading ≡ column ∷ fields_if columns → row_fields row ≡ len ∷ fields_if fields → bytes ≤ 2 ^ 64 - 1
-      → CountHits hits old → AddsHit (key_text (codes "total") []) bytes old new → CountsOn hits columns fields new
-  begins_row hits column len columns fields old new is of_heading of_row small so_far more = record {
-    done = record { key = key_text (codes "total") []; bytes = bytes } ∷ [];
-    so_far_counted = hits_more hits (record { key = key_text (codes "total") []; bytes = bytes }) old new small so_far
-        more;
+      → row_fields heading ≡ column ∷ fields_if columns → row_fields row ≡ len ∷ fields_if fields
+      → CountHits hits table → CountsOn hits columns fields table
+  begins_row hits column len columns fields table is of_heading of_row so_far = record {
+    done = [];
+    so_far_counted = subst (λ l. CountHits l table) (sym (append-nil hits)) so_far;
     parts =
         sym
         ((λ i. fields_hits (of_heading i) (of_row i))
-        ∙ ap (λ n. hits_under n (key_text (codes "total") [] ∷ keys_in (fields_if columns) (fields_if fields)))
-        (sym is));
+        ∙ ap (λ n. hits_under n (keys_in (fields_if columns) (fields_if fields))) (sym is));
   }
 
   module _ (hits : List Hit) (names texts column text : List ℕ) (columns fields : Option (List ℕ))

@@ -1,6 +1,11 @@
 -- What is kept of rows.
-use Rattle.std.proofs.Common.{◌≡◌, ℕ, List, [], ◌++◌, Bool, true, false, Option, Some, None, sym, subst}
+use Rattle.std.proofs.Common.{◌≡◌, ℕ, List, [], ◌++◌, Bool, true, false, Option, Some, None, refl, sym, subst, ◌∙◌}
 use Rattle.std.specs.Io.KnownBytes.{Appends}
+use Rattle.std.specs.List.{flat_map}
+use Rattle.ether_capture.specs.CountTable.{count_at}
+use Rattle.ether_capture.specs.RowFields.{lines_counts, lines_of, with_total}
+use Rattle.ether_capture.specs.Statistics.{AreRows, Shows, StatisticsRow, statistics_line}
+use Rattle.ether_capture.specs.declared.statistics_format.StatisticsFormat.{StatisticsFormat}
 use Rattle.ether_capture.specs.Journal.{known_if}
 use Rattle.ether_capture.specs.HeldRows.{HoldsRows}
 use Rattle.ether_capture.specs.Tabulating.{Tabulates}
@@ -22,3 +27,21 @@ kept_after true false None holds bytes old new going kept appends takes = absurd
 kept_after true false (Some text) None bytes old new going kept appends takes = absurd appends
 kept_after true false (Some text) (Some more) bytes old new going kept appends takes =
     subst (λ t. Tabulates t new) (sym appends) (takes text kept)
+
+-- what is written of them
+pub shown : (is_known failed : Bool) (holds : Option (List ℕ)) (rows counted : Rows) (format : StatisticsFormat)
+    (held out : Option (List ℕ)) (lines : List StatisticsRow)
+    → HoldsRows is_known failed holds rows → failed ≡ false
+    → count_at counted.counts ≡ with_total rows.total (count_at rows.counts)
+    → AreRows (count_at counted.counts) lines → Appends held out (flat_map (statistics_line format) lines)
+    → Shows is_known holds format held out
+shown false failed holds rows counted format held out lines kept going total are appends = tt
+shown true true holds rows counted format held out lines kept going total are appends = absurd cc
+shown true false None rows counted format held out lines kept going total are appends = absurd kept
+shown true false (Some text) rows counted format held out lines kept going total are appends =
+    let same : count_at counted.counts ≡ lines_counts (lines_of text) =
+    total ∙ (λ i. with_total (kept.0.1.1 i) (λ key. kept.0.1.0 key i)) in (
+      flat_map (statistics_line format) lines,
+      record { rows = lines; are_rows = subst (λ t. AreRows t lines) same are; is_text = refl },
+      appends,
+    )

@@ -3,7 +3,7 @@ use Rattle.std.specs.Prelude.{ℕ, List, [], ◌∷◌, Bool, true, false, Optio
 use Rattle.std.specs.Coded.{Coded, Coded-set, code_by, coded_bool, coded_list, coded_option, coded_ℕ, coded×, Unit-prop, ×_prop, Π_prop}
 use Rattle.ether_capture.specs.CountTable.{count_at}
 use Rattle.ether_capture.specs.KeyCounts.{count_of}
-use Rattle.ether_capture.specs.RowFields.{lines_hits, lines_of}
+use Rattle.ether_capture.specs.RowFields.{lines_hits, lines_of, total_of}
 use Rattle.ether_capture.specs.Tabulating.{HasHeading, Tabulates}
 use Rattle.ether_capture.specs.declared.count.Count.{Count}
 use Rattle.ether_capture.specs.declared.rows.Rows.{Rows}
@@ -34,6 +34,7 @@ HoldsRows-prop true false None rows = λ x y. absurd x
 HoldsRows-prop true false (Some text) rows =
     ×_prop
     (×_prop (heading-prop (lines_of text) rows)
-    (Π_prop (λ key. Coded-set (coded_option count_code) (count_at rows.counts key)
-    (count_of (lines_hits (lines_of text)) key))))
+    (×_prop (Π_prop (λ key. Coded-set (coded_option count_code) (count_at rows.counts key)
+    (count_of (lines_hits (lines_of text)) key)))
+    (Coded-set count_code rows.total (total_of (lines_of text)))))
     (Coded-set (coded_list coded_ℕ) _ _)

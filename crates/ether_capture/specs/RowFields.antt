@@ -1,8 +1,10 @@
 -- Lines of fields. The first line names the columns.
-use Rattle.std.specs.Prelude.{◌==◌, ℕ, ◌+◌, ◌-◌, ◌*◌, List, [], ◌∷◌, ◌++◌, codes, map, Option, Some, None, if◌then◌else◌}
-use Rattle.std.specs.List.{flat_map}
-use Rattle.ether_capture.specs.KeyCounts.{Hit}
+use Rattle.std.specs.Prelude.{◌==◌, ℕ, ◌+◌, ◌-◌, ◌*◌, List, [], ◌∷◌, ◌++◌, codes, length, map, Option, Some, None, if◌then◌else◌}
+use Rattle.std.specs.List.{flat_map, sum_by}
+use Rattle.std.specs.Str.{bytes_eq}
+use Rattle.ether_capture.specs.KeyCounts.{Hit, count_of}
 use Rattle.ether_stream.specs.Packets.{counted}
+use Rattle.ether_capture.specs.declared.count.Count.{Count}
 
 -- ---- lines and fields
 
@@ -57,17 +59,34 @@ after_first (f ∷ fs) = fs
 abbrev pub hits_under : (bytes : ℕ) → (keys : List (List ℕ)) → List Hit
 hits_under bytes keys = map (λ k. record { key = k; bytes = bytes }) keys
 
--- The first column is the length of the packet. The packet counts for the total, and for each of the others that has a
--- text.
+-- the first column is the length of the packet
+abbrev pub fields_bytes : (fields : List (List ℕ)) → ℕ
+fields_bytes [] = 0
+fields_bytes (len ∷ fields) = counted (decimal_value 0 len)
+
+-- the packet counts for each of the others that has a text
 abbrev pub fields_hits : (columns fields : List (List ℕ)) → List Hit
-fields_hits columns [] = []
-fields_hits columns (len ∷ fields) =
-    hits_under (counted (decimal_value 0 len)) (key_text (codes "total") [] ∷ keys_in (after_first columns) fields)
+fields_hits columns fields = hits_under (fields_bytes fields) (keys_in (after_first columns) (after_first fields))
 
 abbrev pub row_hits : (heading row : List ℕ) → List Hit
 row_hits heading row = fields_hits (row_fields heading) (row_fields row)
+
+abbrev pub row_bytes : (row : List ℕ) → ℕ
+row_bytes row = fields_bytes (row_fields row)
 
 -- of the rows after a heading
 abbrev pub lines_hits : List (List ℕ) → List Hit
 lines_hits [] = []
 lines_hits (heading ∷ rows) = flat_map (row_hits heading) rows
+
+-- all packets of these rows
+abbrev pub total_of : List (List ℕ) → Count
+total_of [] = record { packets = 0; bytes = 0 }
+total_of (heading ∷ rows) = record { packets = counted (length rows); bytes = counted (sum_by row_bytes rows) }
+
+-- their count has a key of its own
+abbrev pub with_total : Count → (table : (key : List ℕ) → Option Count) → (key : List ℕ) → Option Count
+with_total total table key = if bytes_eq (key_text (codes "total") []) key then Some total else table key
+
+abbrev pub lines_counts : List (List ℕ) → (key : List ℕ) → Option Count
+lines_counts lines = with_total (total_of lines) (count_of (lines_hits lines))

@@ -7,8 +7,7 @@ use Rattle.std.specs.List.{flat_map}
 use Rattle.std.specs.List.Sorted.{IsStrictlySortedBy}
 use Rattle.std.specs.Map.{lookup}
 use Rattle.std.specs.Str.{bytes_eq}
-use Rattle.ether_capture.specs.KeyCounts.{count_of}
-use Rattle.ether_capture.specs.RowFields.{after_first, row_fields, lines_hits, lines_of}
+use Rattle.ether_capture.specs.RowFields.{after_first, row_fields, lines_counts, lines_of}
 use Rattle.ether_output.specs.OutputBuffer.{Takes}
 use Rattle.ether_capture.specs.declared.count.Count.{Count}
 use Rattle.ether_capture.specs.declared.statistics_format.StatisticsFormat.{StatisticsFormat}
@@ -50,7 +49,7 @@ pub record TakesStatistics {W : Type 0} (contents : W → Option (List ℕ)) (ca
 -- this is the summary of the rows in a text, whose first line names the columns
 pub record IsStatistics (format : StatisticsFormat) (text summary : List ℕ) : Type 0 where
   pub rows : List StatisticsRow
-  pub are_rows : AreRows (count_of (lines_hits (lines_of text))) rows
+  pub are_rows : AreRows (lines_counts (lines_of text)) rows
   pub is_text : summary ≡ flat_map (statistics_line format) rows
 
 -- the summary of what is known is appended

@@ -44,7 +44,7 @@ impl CountTable {
     }
 
     /// Sets the count under a key.
-    fn insert(&mut self, key: &[u8], count: Count) -> Result<(), NoMemory>
+    pub(crate) fn insert(&mut self, key: &[u8], count: Count) -> Result<(), NoMemory>
         ensures { OnOk result ((q : List ℕ) → count_at self.new q
             ≡ (if bytes_eq key.now q then Some count else count_at self.old q)) }
     {

@@ -1,15 +1,16 @@
 //! Rows of columns, whose texts are counted.
-ghost use Rattle.std.specs.Prelude.{◌≡◌, ◌==◌, ◌++◌, ◌∷◌, [], ℕ, List, OnOk, IfSome, IfNone, false};
+ghost use Rattle.std.specs.Prelude.{◌≡◌, ◌==◌, ◌++◌, ◌∷◌, [], ℕ, List, IfOk, OnOk, IfSome, IfNone, false};
 ghost use Rattle.std.specs.Option.{option_map};
 ghost use Rattle.std.specs.List.{All};
 ghost use Rattle.ether_capture.specs.KeyCounts.{AddsHit, Hit, CountHits};
 ghost use Rattle.ether_stream.specs.Packets.{counted};
 ghost use Rattle.ether_capture.specs.CountTable.{count_at};
-ghost use Rattle.ether_capture.specs.RowFields.{row_fields, fields_if, decimal_value, key_text, row_hits};
+ghost use Rattle.ether_capture.specs.RowFields.{row_fields, fields_if, decimal_value, key_text, row_bytes, row_hits, with_total};
 ghost use Rattle.ether_format.specs.Splits.{SplitsAt};
 ghost use Rattle.ether_capture.specs.Statistics.{TakesStatistics};
 ghost use Rattle.ether_capture.specs.Tabulating.{TabulatesLines, Tabulates};
 
+use crate::count::Count;
 use crate::count_table::CountTable;
 use crate::heap_text::HeapText;
 use crate::statistics_format::StatisticsFormat;
@@ -25,6 +26,7 @@ pub struct Rows {
     has_heading: bool,
     line: HeapText,
     key: HeapText,
+    total: Count,
     counts: CountTable,
 }
 
@@ -38,6 +40,10 @@ impl Rows {
             has_heading: false,
             line: HeapText::new(alloc),
             key: HeapText::new(alloc),
+            total: Count {
+                packets: 0,
+                bytes: 0,
+            },
             counts: CountTable::new(alloc),
         }
     }
@@ -54,6 +60,15 @@ impl Rows {
         }
         self.extend_line(rest)?;
         Ok(())
+    }
+
+    /// Counts all packets under a key of their own. Returns [`NoMemory`] if memory for that is refused. No line is taken
+    /// after that.
+    pub fn add_total(&mut self) -> Result<(), NoMemory>
+        ensures { OnOk result
+            (count_at self.new.counts ≡ with_total self.old.total (count_at self.old.counts)) }
+    {
+        self.counts.insert(b"total\t", self.total)
     }
 
     /// Writes a line for each text of a column, in the order of their bytes.
@@ -92,30 +107,31 @@ impl Rows {
             self.has_heading = true;
             return Ok(());
         }
-        count_row(
+        let bytes = count_row(
             self.heading.as_slice(),
             self.line.as_slice(),
             &mut self.key,
             &mut self.counts,
         )?;
+        self.total = self.total.with(bytes);
         Ok(())
     }
 }
 
-/// Counts a packet for a row, and for each text of its columns.
+/// Counts a packet for each text of the columns of its row. Returns how many bytes the packet had.
 fn count_row(
     heading: &[u8],
     row: &[u8],
     key: &mut HeapText,
     counts: &mut CountTable,
-) -> Result<(), NoMemory>
-    ensures { (hits : List Hit) → CountHits hits (count_at counts.old)
+) -> Result<usize, NoMemory>
+    ensures bytes { IfOk result (λ n. n ≡ row_bytes row.now) }
+    ensures counts { (hits : List Hit) → CountHits hits (count_at counts.old)
         → OnOk result (CountHits (hits ++ row_hits heading.now row.now) (count_at counts.new)) }
 {
     let (_, mut columns) = first_field(heading);
     let (len, mut fields) = first_field(row);
     let bytes = decimal_value(len);
-    count(b"total", b"", bytes, key, counts)?;
     while let (Some(names), Some(texts)) = (columns, fields) {
         let (column, later_columns) = first_field(names);
         let (text, later_fields) = first_field(texts);
@@ -125,7 +141,7 @@ fn count_row(
         columns = later_columns;
         fields = later_fields;
     }
-    Ok(())
+    Ok(bytes)
 }
 
 /// Counts a packet for the text of a column.

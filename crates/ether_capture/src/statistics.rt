@@ -1,13 +1,15 @@
 //! Counts the texts of rows.
-ghost use Rattle.std.specs.Prelude.{◌≡◌, ⊤, false, OnOk, OnErr};
+ghost use Rattle.std.specs.Prelude.{◌≡◌, ◌⊎◌, ⊤, false, IfErr, OnOk};
 ghost use Rattle.ether_capture.specs.HeldRows.{HoldsRows, HoldsRows-prop};
 ghost use Rattle.ether_capture.specs.Journal.{known_if};
 ghost use Rattle.ether_capture.specs.Statistics.{Shows};
+ghost use Rattle.ether_stream.specs.declared.outcome.RunFault.TheVariants.{Memory, Output};
 
 use crate::journal::Journal;
 use crate::rows::Rows;
 use crate::statistics_format::StatisticsFormat;
 use ether_output::{OutputBuffer, OutputFault, Sink};
+use ether_stream::RunFault;
 use std::alloc::Global;
 
 /// A sink of rows, whose texts are counted.
@@ -38,21 +40,26 @@ impl<J: Journal> Statistics<J> {
         self.has_failed
     }
 
-    /// Writes a line for each text of a column, in the order of their bytes.
+    /// Writes a line for all packets, and for each text of a column, in the order of their bytes. No row can be counted
+    /// after that.
     pub fn write<W: Sink>(
-        &self,
+        &mut self,
         format: StatisticsFormat,
         writer: &mut W,
-    ) -> Result<(), OutputFault>
-        ensures written { OnOk result (self.now.has_failed ≡ false
-            → Shows J.is_known (J.Sink.contents self.now.journal) format (W.contents writer.old)
+    ) -> Result<(), RunFault>
+        ensures written { OnOk result (self.old.has_failed ≡ false
+            → Shows J.is_known (J.Sink.contents self.old.journal) format (W.contents writer.old)
             (W.contents writer.new)) }
         ensures flushed { OnOk result (W.is_flushed writer.new) }
-        ensures failed { OnErr result W.can_fail }
+        ensures failed { IfErr result (λ fault. ((fault ≡ Memory) × (writer.new ≡ writer.old))
+            ⊎ ((fault ≡ Output) × W.can_fail)) }
     {
+        self.has_failed = true;
+        self.rows.add_total()?;
         let mut out = OutputBuffer::new(writer);
         self.rows.write(format, &mut out);
-        out.flush()
+        out.flush()?;
+        Ok(())
     }
 }
 

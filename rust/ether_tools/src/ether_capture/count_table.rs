@@ -21,10 +21,14 @@ impl CountTable {
     pub fn add(&mut self, key: &[u8], bytes: usize) -> Result<(), NoMemory> {
         match self.counts.get_mut(key) {
             Some(count) => *count = count.with(bytes),
-            None => {
-                self.counts.insert(key.to_vec(), Count::of_packet(bytes));
-            }
+            None => self.insert(key, Count::of_packet(bytes))?,
         }
+        Ok(())
+    }
+
+    /// Sets the count under a key. Never returns an error: without memory std ends the process.
+    pub(crate) fn insert(&mut self, key: &[u8], count: Count) -> Result<(), NoMemory> {
+        self.counts.insert(key.to_vec(), count);
         Ok(())
     }
 

@@ -121,7 +121,10 @@ fn carry_out_request<
     }
     match counts.write(format, writer) {
         Ok(()) => outcome,
-        Err(OutputFault) => Outcome::Run(Err(RunFault::Output)),
+        Err(fault) => match fault {
+            RunFault::Memory => Outcome::NoMemory,
+            _ => Outcome::Run(Err(RunFault::Output)),
+        },
     }
 }
 

@@ -1,5 +1,6 @@
 //! Rows of columns, whose texts are counted.
 
+use crate::ether_capture::count::Count;
 use crate::ether_capture::count_table::CountTable;
 use crate::ether_capture::heap_text::HeapText;
 use crate::ether_capture::statistics_format::StatisticsFormat;
@@ -14,6 +15,7 @@ pub struct Rows {
     has_heading: bool,
     line: HeapText,
     key: HeapText,
+    total: Count,
     counts: CountTable,
 }
 
@@ -33,6 +35,10 @@ impl Rows {
             has_heading: false,
             line: HeapText::new(alloc),
             key: HeapText::new(alloc),
+            total: Count {
+                packets: 0,
+                bytes: 0,
+            },
             counts: CountTable::new(alloc),
         }
     }
@@ -55,6 +61,21 @@ impl Rows {
         }
         self.extend_line(rest)?;
         Ok(())
+    }
+
+    /// Counts all packets under a key of their own. Returns [`NoMemory`] if memory for that is refused. No line is taken
+    /// after that.
+    ///
+    /// <details><summary>Contract</summary>
+    ///
+    /// ```text
+    /// ensures { OnOk result
+    ///     (count_at self.new.counts ≡ with_total self.old.total (count_at self.old.counts)) }
+    /// ```
+    ///
+    /// </details>
+    pub fn add_total(&mut self) -> Result<(), NoMemory> {
+        self.counts.insert(b"total\t", self.total)
     }
 
     /// Writes a line for each text of a column, in the order of their bytes.
@@ -90,27 +111,27 @@ impl Rows {
             self.has_heading = true;
             return Ok(());
         }
-        count_row(
+        let bytes = count_row(
             self.heading.as_slice(),
             self.line.as_slice(),
             &mut self.key,
             &mut self.counts,
         )?;
+        self.total = self.total.with(bytes);
         Ok(())
     }
 }
 
-/// Counts a packet for a row, and for each text of its columns.
+/// Counts a packet for each text of the columns of its row. Returns how many bytes the packet had.
 fn count_row(
     heading: &[u8],
     row: &[u8],
     key: &mut HeapText,
     counts: &mut CountTable,
-) -> Result<(), NoMemory> {
+) -> Result<usize, NoMemory> {
     let (_, mut columns) = first_field(heading);
     let (len, mut fields) = first_field(row);
     let bytes = decimal_value(len);
-    count(b"total", b"", bytes, key, counts)?;
     while let (Some(names), Some(texts)) = (columns, fields) {
         let (column, later_columns) = first_field(names);
         let (text, later_fields) = first_field(texts);
@@ -120,7 +141,7 @@ fn count_row(
         columns = later_columns;
         fields = later_fields;
     }
-    Ok(())
+    Ok(bytes)
 }
 
 /// Counts a packet for the text of a column.

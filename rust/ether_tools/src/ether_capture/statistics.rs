@@ -4,6 +4,7 @@ use crate::ether_capture::journal::Journal;
 use crate::ether_capture::rows::Rows;
 use crate::ether_capture::statistics_format::StatisticsFormat;
 use etherpeel::ether_output::{OutputBuffer, OutputFault, Sink};
+use crate::ether_stream::RunFault;
 use crate::ether_capture::memory::Global;
 
 /// A sink of rows, whose texts are counted.
@@ -44,27 +45,32 @@ impl<J: Journal> Statistics<J> {
         self.has_failed
     }
 
-    /// Writes a line for each text of a column, in the order of their bytes.
+    /// Writes a line for all packets, and for each text of a column, in the order of their bytes. No row can be counted
+    /// after that.
     ///
     /// <details><summary>Contract</summary>
     ///
     /// ```text
-    /// ensures written { OnOk result (self.now.has_failed ≡ false
-    ///     → Shows J.is_known (J.Sink.contents self.now.journal) format (W.contents writer.old)
+    /// ensures written { OnOk result (self.old.has_failed ≡ false
+    ///     → Shows J.is_known (J.Sink.contents self.old.journal) format (W.contents writer.old)
     ///     (W.contents writer.new)) }
     /// ensures flushed { OnOk result (W.is_flushed writer.new) }
-    /// ensures failed { OnErr result W.can_fail }
+    /// ensures failed { IfErr result (λ fault. ((fault ≡ Memory) × (writer.new ≡ writer.old))
+    ///     ⊎ ((fault ≡ Output) × W.can_fail)) }
     /// ```
     ///
     /// </details>
     pub fn write<W: Sink>(
-        &self,
+        &mut self,
         format: StatisticsFormat,
         writer: &mut W,
-    ) -> Result<(), OutputFault> {
+    ) -> Result<(), RunFault> {
+        self.has_failed = true;
+        self.rows.add_total()?;
         let mut out = OutputBuffer::new(writer);
         self.rows.write(format, &mut out);
-        out.flush()
+        out.flush()?;
+        Ok(())
     }
 }
 

@@ -4,4 +4,4 @@ use Rattle.ether_capture.proofs.rows.Rows.extend_line.Goals as goal
 
 pub returns : goal.returns
 returns c text so_far none =
-    line_goes_on text c.args.bytes.now c.args.self.now _ none so_far refl refl refl c.in_ok-append.ensures
+    line_goes_on text c.args.bytes.now c.args.self.now _ none so_far refl refl refl refl c.in_ok-append.ensures

@@ -1,7 +1,7 @@
-use Rattle.std.proofs.Common.{◌≡◌, ◌++◌, List, ℕ, refl, ap, rules, true, false, ◌∙◌, subst}
-use Rattle.ether_capture.specs.KeyCounts.{CountHits}
+use Rattle.std.proofs.Common.{◌≡◌, ◌++◌, List, ℕ, Some, refl, ap, rules, true, false, ◌∙◌, subst}
+use Rattle.ether_capture.specs.KeyCounts.{CountHits, plus}
 use Rattle.ether_capture.specs.CountTable.{count_at}
-use Rattle.ether_capture.specs.RowFields.{row_hits}
+use Rattle.ether_capture.specs.RowFields.{row_bytes, row_hits}
 use Rattle.ether_capture.proofs.RowsLemmas.{first_line, next_row}
 use Rattle.ether_capture.proofs.rows.Rows.take_line.Goals as goal
 
@@ -10,6 +10,7 @@ returns-then-not-self c lines so_far =
     let none : c.args.self.now.has_heading ≡ false = search rules in
     first_line lines c.args.self.now.line.bytes.items c.args.self.now _ none so_far refl
     (c.in_ok-append.ensures ∙ ap (λ (l : List ℕ). c.args.self.now.heading.bytes.items ++ l) c.as_slice.ensures) refl
+    refl
 
 pub returns : goal.returns
 returns c lines so_far =
@@ -22,4 +23,6 @@ returns c lines so_far =
     c.as_slice-3.ensures
     (subst
     (λ (l : List ℕ). CountHits (hits ++ row_hits l c.as_slice-3.result.now) (count_at c.count_row.new.counts))
-    c.as_slice-2.ensures (c.in_ok-count_row.ensures hits counts)))
+    c.as_slice-2.ensures (c.in_ok-bytes.ensures.counts hits counts)))
+    (c.with-self.ensures
+    ∙ ap (plus (Some c.args.self.now.total)) (c.in_ok-bytes.ensures.bytes ∙ ap row_bytes c.as_slice-3.ensures))
