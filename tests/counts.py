@@ -67,6 +67,22 @@ vlan.pcp	5,0	1	24
 ]
 
 
+# Of columns together: name, capture, words, status, and for each row of texts its packets and their bytes.
+TOGETHER = [
+    ("tags and types", TAGS, ["vlan.vid,vlan.pcp,eth.type"], 0, """\
+total		3	54
+vlan.vid	vlan.pcp	eth.type			0x0800	2	30
+vlan.vid	vlan.pcp	eth.type	1,5	5,0	0x88A8	1	24
+"""),
+    ("a column alone", TAGS, ["eth.src"], 0, "eth.src	02:00:00:00:00:01	3	54\ntotal		3	54\n"),
+    ("packets that have none of them", TAGS, ["arp.spa,arp.sha"], 0, "total		3	54\n"),
+    ("who claims an address", ARP, ["arp.spa,arp.sha"], 0, "arp.spa	arp.sha	10.0.0.1	02:00:00:00:00:01	1	42\ntotal		1	42\n"),
+    ("packets that are selected", CLASSIC, ["fault.kind,vlan.vid", "--select", "vlan 291"], 0, "fault.kind	vlan.vid		291	1	46\ntotal		1	46\n"),
+    ("no packet", classic(), ["eth.src,eth.dst"], 0, "total		0	0\n"),
+    ("the same column twice", ARP, ["arp.op,arp.op", "--format", "lines"], 0, "arp.op	arp.op	1	1	1	42\ntotal		1	42\n"),
+]
+
+
 def as_objects(text):
     """What JSON has for these lines."""
     rows = [line.split("\t") for line in text.splitlines()]
@@ -85,6 +101,8 @@ def examples(program):
         yield f"counts: {name}", partial(run_apart, program, ["--stats", *words], capture), (text, "", status)
         if "--format" not in words:
             yield f"counts as JSON: {name}", partial(objects, program, words, capture), (as_objects(text), "", status)
+    for name, capture, words, status, text in TOGETHER:
+        yield f"counts of columns together: {name}", partial(run_apart, program, ["--stats", "--by", *words], capture), (text, "", status)
     line = '{"column":"vlan.vid","value":"291","packets":1,"bytes":46}\n'
     found = partial(run_apart, program, ["--stats", "--format", "json", "--fields", "vlan.vid", "--select", "vlan 291"], CLASSIC)
     yield "counts as JSON, byte for byte", found, ('{"column":"total","value":"","packets":1,"bytes":46}\n' + line, "", 0)
@@ -122,11 +140,17 @@ def counted_by_tshark(program):
         words = [word for it in ("frame.len", *fields.values()) for word in ("-e", it)]
         done = subprocess.run(["tshark", "-n", "-r", pcap.name, "-T", "fields", *words], capture_output=True, text=True, check=False)
         out = subprocess.run([program, "--stats", "--format", "json", "--fields", ",".join(fields), pcap.name], capture_output=True, text=True, check=False)
-    wanted = collections.defaultdict(lambda: [0, 0])
+        both = subprocess.run([program, "--stats", "--by", ",".join(fields), pcap.name], capture_output=True, text=True, check=False)
+    wanted, rows = collections.defaultdict(lambda: [0, 0]), collections.defaultdict(lambda: [0, 0])
     for line in done.stdout.splitlines():
         size, *values = line.split("\t")
+        if any(values):
+            rows["\t".join([*fields, *values])][0] += 1
+            rows["\t".join([*fields, *values])][1] += int(size)
         for key in [("total", ""), *((column, value) for column, value in zip(fields, values) if value)]:
             wanted[key][0] += 1
             wanted[key][1] += int(size)
     found = {(it["column"], it["value"]): [it["packets"], it["bytes"]] for it in map(json.loads, out.stdout.splitlines())}
-    return [("counts with tshark", (found, len(found) > 100), (dict(wanted), True))]
+    lines = sorted(f"{row}\t{packets}\t{size}\n" for row, (packets, size) in [*rows.items(), ("total\t", wanted["total", ""])])
+    return [("counts with tshark", (found, len(found) > 100), (dict(wanted), True)),
+            ("counts of columns together with tshark", (both.stdout, len(lines) > 100), ("".join(lines), True))]

@@ -30,7 +30,7 @@ from counts import examples as counts
 from formats import examples
 from programs import count, on_a_full_disk, run, run_apart, run_until_a_fault, without_memory
 
-USAGE = ("usage: ether_capture [[--plain | --format lines|brief|json | --fields COLUMNS [--header] | --stats [--fields COLUMNS] [--format json]] [--limit N] [--status-on-fault yes|no] | --write [-w COPY] [--cut-to-headers | --pop-vlan | --push-vlan TPID:ID | --set-vlan A:B]] "
+USAGE = ("usage: ether_capture [[--plain | --format lines|brief|json | --fields COLUMNS [--header] | --stats [[--fields COLUMNS] [--format json] | --by COLUMNS]] [--limit N] [--status-on-fault yes|no] | --write [-w COPY] [--cut-to-headers | --pop-vlan | --push-vlan TPID:ID | --set-vlan A:B]] "
          "[--select EXPR [--undecided keep|drop]] [-c N] [--progress] [-r FILE | FILE..]\n")
 
 
@@ -314,6 +314,7 @@ EXPECTED = {
     "--limit": "a number up to 4294967295",
     "--format": "lines, brief or json",
     "--fields": "at most 32 columns, as vlan.vid,eth.src",
+    "--by": "at most 32 columns, as vlan.vid,eth.src",
     "--status-on-fault": "yes or no",
     "--undecided": "keep or drop",
     "--push-vlan": "a TPID of VLAN tags and an identifier up to 4095, as 0x8100:5",
@@ -371,6 +372,16 @@ WRONG = [
     ("counts and a copy to a file", ["--stats", "-w", "copy"], CLASH),
     ("counts of 32 columns", ["--stats", "--fields", ",".join(["eth.src"] * 32)], CLASH),
     ("counts of a column that is none", ["--stats", "--fields", "vlan.id"], no_column("vlan.id")),
+    ("columns together that are not counted", ["--by", "vlan.vid"], lacking("--by", "--stats")),
+    ("columns together, one of them none", ["--stats", "--by", "eth.src,vlan.id"], wrong("--by: there is no column 'vlan.id'")),
+    ("33 columns together", ["--stats", "--by", ",".join(["eth.src"] * 33)], expected("--by", ",".join(["eth.src"] * 33))),
+    ("32 columns together", ["--stats", "--by", ",".join(["eth.src"] * 32)], CLASH),
+    ("columns together, and others", ["--stats", "--by", "vlan.vid", "--fields", "eth.src"], CLASH),
+    ("columns together as JSON", ["--stats", "--by", "vlan.vid", "--format", "json"], CLASH),
+    ("columns together for the eye", ["--stats", "--by", "vlan.vid", "--format", "brief"], CLASH),
+    ("columns together and a copy", ["--stats", "--by", "vlan.vid", "--write"], CLASH),
+    ("columns together twice", ["--stats", "--by", "vlan.vid", "--by", "eth.src"], TWICE),
+    ("columns together without their names", ["--stats", "--by"], missing("--by")),
     ("counts twice", ["--stats", "--stats"], TWICE),
     ("an option that is none", ["--plane"], unknown("--plane")),
     ("the beginning of an option", ["--pla"], unknown("--pla")),

@@ -74,9 +74,9 @@ CALL_METHODS = set("split_at wrapping_mul".split())
 # What the libraries of the programs use besides.
 PROGRAM_TEXTS = "#[error("  # the text of an error, by thiserror
 PROGRAM_MACROS = {"write": "(", "writeln": "(", "format": "("}
-PROGRAM_NAMES = {"ErrorKind", "Global", "NonZeroUsize", "Noted", "String", "Vec", "Read", "Write", "tell_failure"}
+PROGRAM_NAMES = {"ErrorKind", "Global", "NonZeroUsize", "Noted", "PhantomData", "String", "Vec", "Read", "Write", "tell_failure"}
 PROGRAM_PATHS = set(
-    """std::env std::error::Error std::fmt std::io std::io::ErrorKind std::io::Read std::io::Write std::num::NonZeroUsize
+    """std::env std::error::Error std::fmt std::io std::io::ErrorKind std::io::Read std::io::Write std::marker::PhantomData std::num::NonZeroUsize
     ErrorKind::Interrupted NonZeroUsize::new env::Args io::Error
     io::Result io::Sink io::Write io::sink hex::decode_to_slice hex::encode_to_slice thiserror::Error u64::MAX""".split()
 )

@@ -1,5 +1,5 @@
 -- A row whose fields are counted one after the other.
-use Rattle.std.proofs.Common.{◌≡◌, ℕ, ◌≤◌, List, [], ◌∷◌, ◌++◌, length, Option, Some, None, refl, sym, ap, subst, ◌∙◌, append_assoc, append-nil, arith}
+use Rattle.std.proofs.Common.{◌≡◌, ℕ, ◌≤◌, List, [], ◌∷◌, ◌++◌, length, false, Option, Some, None, refl, sym, ap, subst, ◌∙◌, append_assoc, append-nil, arith}
 use Rattle.std.specs.Prelude.{◌^◌, ◌-◌, ◌≢◌}
 use Rattle.ether_capture.specs.declared.count.Count.{Count}
 use Rattle.ether_capture.specs.KeyCounts.{CountHits, AddsHit, Hit}
@@ -19,7 +19,7 @@ module _ (heading row : List ℕ) (bytes : ℕ) where
       (table : List ℕ → Option Count) : Type 0 where
     pub done : List Hit
     pub so_far_counted : CountHits (hits ++ done) table
-    pub parts : done ++ hits_under bytes (keys_in (fields_if columns) (fields_if fields)) ≡ row_hits heading row
+    pub parts : done ++ hits_under bytes (keys_in (fields_if columns) (fields_if fields)) ≡ row_hits false heading row
 
   pub begins_row : (hits : List Hit) (column len : List ℕ) (columns fields : Option (List ℕ))
       (table : List ℕ → Option Count)
@@ -31,7 +31,7 @@ module _ (heading row : List ℕ) (bytes : ℕ) where
     so_far_counted = subst (λ l. CountHits l table) (sym (append-nil hits)) so_far;
     parts =
         sym
-        ((λ i. fields_hits (of_heading i) (of_row i))
+        ((λ i. fields_hits false (of_heading i) (of_row i))
         ∙ ap (λ n. hits_under n (keys_in (fields_if columns) (fields_if fields))) (sym is));
   }
 
@@ -86,19 +86,19 @@ module _ (heading row : List ℕ) (bytes : ℕ) where
 
   ends_row : (hits : List Hit) (columns fields : Option (List ℕ)) (table : List ℕ → Option Count)
       → keys_in (fields_if columns) (fields_if fields) ≡ [] → CountsOn hits columns fields table
-      → CountHits (hits ++ row_hits heading row) table
+      → CountHits (hits ++ row_hits false heading row) table
   ends_row hits columns fields table none so_far =
       subst (λ l. CountHits (hits ++ l) table)
       (sym (append-nil so_far.done) ∙ ap (λ k. so_far.done ++ hits_under bytes k) (sym none) ∙ so_far.parts)
       so_far.so_far_counted
 
   pub ends_names : (hits : List Hit) (columns fields : Option (List ℕ)) (table : List ℕ → Option Count) → columns ≡ None
-      → CountsOn hits columns fields table → CountHits (hits ++ row_hits heading row) table
+      → CountsOn hits columns fields table → CountHits (hits ++ row_hits false heading row) table
   ends_names hits columns fields table none =
       ends_row hits columns fields table (ap (λ c. keys_in (fields_if c) (fields_if fields)) none)
 
   pub ends_texts : (hits : List Hit) (columns fields : Option (List ℕ)) (table : List ℕ → Option Count) → fields ≡ None
-      → CountsOn hits columns fields table → CountHits (hits ++ row_hits heading row) table
+      → CountsOn hits columns fields table → CountHits (hits ++ row_hits false heading row) table
   ends_texts hits columns fields table none =
       ends_row hits columns fields table (ap (λ f. keys_in (fields_if columns) (fields_if f)) none
       ∙ no_keys (fields_if columns))

@@ -6,6 +6,7 @@ pub mod CountTableLemmas
 pub mod KeyCountLemmas
 pub mod FieldLemmas
 pub mod CountRowLemmas
+pub mod JointLemmas
 pub mod RowsLemmas
 pub mod HeldRowsLemmas
 pub mod StatisticsLemmas

@@ -14,7 +14,7 @@ use Rattle.std.proofs.lemmas.Map.Text.{is_eq-slice_cmp}
 use Rattle.ether_capture.specs.declared.count.Count.{Count}
 use Rattle.ether_capture.specs.declared.statistics_format.StatisticsFormat.{StatisticsFormat}
 use Rattle.ether_capture.specs.RowFields.{lines_counts, lines_of}
-use Rattle.ether_capture.specs.Statistics.{AreRows, IsStatistics, StatisticsRow, statistics_line}
+use Rattle.ether_capture.specs.Statistics.{AreRows, IsStatistics, StatisticsRow, is_joint, statistics_line}
 
 abbrev order : List ℕ → List ℕ → Ordering
 order = slice_cmp nat_cmp
@@ -127,5 +127,5 @@ pub one_statistics : (format : StatisticsFormat) (text a b : List ℕ) → IsSta
     → IsStatistics format text b → a ≡ b
 one_statistics format text a b s t =
     s.is_text ∙ ap (flat_map (statistics_line format))
-    (one_table (lines_counts (lines_of text)) s.rows t.rows s.are_rows t.are_rows)
+    (one_table (lines_counts (is_joint format) (lines_of text)) s.rows t.rows s.are_rows t.are_rows)
     ∙ sym t.is_text

@@ -1,5 +1,5 @@
 -- Lines that are taken one after the other.
-use Rattle.std.proofs.Common.{◌≡◌, ℕ, ◌+◌, List, [], ◌∷◌, ◌++◌, length, true, false, Some, sym, ap, subst, ◌∙◌, append_assoc, append-nil, length-append, arith}
+use Rattle.std.proofs.Common.{◌≡◌, ℕ, ◌+◌, List, [], ◌∷◌, ◌++◌, length, Bool, true, false, Some, sym, ap, subst, ◌∙◌, append_assoc, append-nil, length-append, arith}
 use Rattle.std.specs.Prelude.{◌==◌}
 use Rattle.std.specs.List.{All, flat_map, sum_by}
 use Rattle.std.proofs.lemmas.List.Sums.{sum_by_push}
@@ -25,32 +25,33 @@ total_more heading rows line =
     λ i. record { packets = packets i; bytes = bytes i }
 
 -- the first line
-pub first_line : (lines : List (List ℕ)) (line : List ℕ) (old new : Rows) → old.has_heading ≡ false
-    → TabulatesLines lines old → new.has_heading ≡ true → new.heading.bytes.items ≡ old.heading.bytes.items ++ line
-    → new.counts ≡ old.counts → new.total ≡ old.total → TabulatesLines (lines ++ line ∷ []) new
-first_line [] line old new none so_far is heading counts total = (
+pub first_line : (joint : Bool) (lines : List (List ℕ)) (line : List ℕ) (old new : Rows) → old.has_heading ≡ false
+    → TabulatesLines joint lines old → new.has_heading ≡ true
+    → new.heading.bytes.items ≡ old.heading.bytes.items ++ line
+    → new.counts ≡ old.counts → new.total ≡ old.total → TabulatesLines joint (lines ++ line ∷ []) new
+first_line joint [] line old new none so_far is heading counts total = (
   (is, heading ∙ ap (λ (l : List ℕ). l ++ line) so_far.0.1),
   (subst (λ t. CountHits [] (count_at t)) (sym counts) so_far.1.0, total ∙ so_far.1.1),
 )
-first_line (h ∷ hs) line old new none so_far is heading counts total = let e : true ≡ false = sym so_far.0.0 ∙ none in
-    absurd cc
+first_line joint (h ∷ hs) line old new none so_far is heading counts total =
+    let e : true ≡ false = sym so_far.0.0 ∙ none in absurd cc
 
 -- a row
-pub next_row : (lines : List (List ℕ)) (line : List ℕ) (old new : Rows) → old.has_heading ≡ true
-    → TabulatesLines lines old → new.has_heading ≡ old.has_heading → new.heading ≡ old.heading
+pub next_row : (joint : Bool) (lines : List (List ℕ)) (line : List ℕ) (old new : Rows) → old.has_heading ≡ true
+    → TabulatesLines joint lines old → new.has_heading ≡ old.has_heading → new.heading ≡ old.heading
     → ((hits : List Hit) → CountHits hits (count_at old.counts)
-    → CountHits (hits ++ row_hits old.heading.bytes.items line) (count_at new.counts))
-    → new.total ≡ plus (Some old.total) (row_bytes line) → TabulatesLines (lines ++ line ∷ []) new
-next_row [] line old new some so_far is heading counts total =
+    → CountHits (hits ++ row_hits joint old.heading.bytes.items line) (count_at new.counts))
+    → new.total ≡ plus (Some old.total) (row_bytes line) → TabulatesLines joint (lines ++ line ∷ []) new
+next_row joint [] line old new some so_far is heading counts total =
     let e : true ≡ false = sym some ∙ so_far.0.0 in absurd cc
-next_row (h ∷ hs) line old new some so_far is heading counts total = (
+next_row joint (h ∷ hs) line old new some so_far is heading counts total = (
   (is ∙ some, ap (λ t. t.bytes.items) heading ∙ so_far.0.1),
   (
     subst (λ l. CountHits l (count_at new.counts))
-        ((λ i. lines_hits (h ∷ hs) ++ row_hits (so_far.0.1 i) line)
-        ∙ ap (λ l. flat_map (row_hits h) hs ++ l) (sym (append-nil (row_hits h line)))
-        ∙ sym (flat_map-append (row_hits h) hs (line ∷ [])))
-        (counts (lines_hits (h ∷ hs)) so_far.1.0),
+        ((λ i. lines_hits joint (h ∷ hs) ++ row_hits joint (so_far.0.1 i) line)
+        ∙ ap (λ l. flat_map (row_hits joint h) hs ++ l) (sym (append-nil (row_hits joint h line)))
+        ∙ sym (flat_map-append (row_hits joint h) hs (line ∷ [])))
+        (counts (lines_hits joint (h ∷ hs)) so_far.1.0),
     total ∙ ap (λ t. plus (Some t) (row_bytes line)) so_far.1.1 ∙ total_more h hs line,
   ),
 )
@@ -61,18 +62,18 @@ has_same [] old new is heading (a, b) = (is ∙ a, ap (λ t. t.bytes.items) head
 has_same (h ∷ hs) old new is heading (a, b) = (is ∙ a, ap (λ t. t.bytes.items) heading ∙ b)
 
 -- the line goes on
-pub line_goes_on : (text bytes : List ℕ) (old new : Rows) → All (λ b. (b == 10) ≡ false) bytes
-    → Tabulates text old → new.has_heading ≡ old.has_heading → new.heading ≡ old.heading
+pub line_goes_on : (joint : Bool) (text bytes : List ℕ) (old new : Rows) → All (λ b. (b == 10) ≡ false) bytes
+    → Tabulates joint text old → new.has_heading ≡ old.has_heading → new.heading ≡ old.heading
     → new.counts ≡ old.counts → new.total ≡ old.total → new.line.bytes.items ≡ old.line.bytes.items ++ bytes
-    → Tabulates (text ++ bytes) new
-line_goes_on text bytes old new none so_far is heading counts total line =
+    → Tabulates joint (text ++ bytes) new
+line_goes_on joint text bytes old new none so_far is heading counts total line =
     let lines : lines_of (text ++ bytes) ≡ lines_of text =
     pieces_after 10 [] text bytes ∙ ap (λ l. lines_of text ++ l) (pieces_none 10 (last_piece 10 [] text) bytes none)
     ∙ append-nil (lines_of text) in (
-      subst (λ l. TabulatesLines l new) (sym lines) (
+      subst (λ l. TabulatesLines joint l new) (sym lines) (
         has_same (lines_of text) old new is heading so_far.0.0,
         (
-          subst (λ t. CountHits (lines_hits (lines_of text)) (count_at t)) (sym counts) so_far.0.1.0,
+          subst (λ t. CountHits (lines_hits joint (lines_of text)) (count_at t)) (sym counts) so_far.0.1.0,
           total ∙ so_far.0.1.1,
         ),
       ),
@@ -81,17 +82,17 @@ line_goes_on text bytes old new none so_far is heading counts total line =
     )
 
 -- the line ends
-pub line_ends : (text : List ℕ) (old mid new : Rows) → Tabulates text old
-    → TabulatesLines (lines_of text ++ old.line.bytes.items ∷ []) mid
+pub line_ends : (joint : Bool) (text : List ℕ) (old mid new : Rows) → Tabulates joint text old
+    → TabulatesLines joint (lines_of text ++ old.line.bytes.items ∷ []) mid
     → new.has_heading ≡ mid.has_heading → new.heading ≡ mid.heading → new.counts ≡ mid.counts
-    → new.total ≡ mid.total → new.line.bytes.items ≡ [] → Tabulates (text ++ 10 ∷ []) new
-line_ends text old mid new so_far taken is heading counts total line = (
-  subst (λ l. TabulatesLines l new)
+    → new.total ≡ mid.total → new.line.bytes.items ≡ [] → Tabulates joint (text ++ 10 ∷ []) new
+line_ends joint text old mid new so_far taken is heading counts total line = (
+  subst (λ l. TabulatesLines joint l new)
       (ap (λ l. lines_of text ++ l ∷ []) so_far.1 ∙ sym (pieces_after 10 [] text (10 ∷ []))) (
         has_same (lines_of text ++ old.line.bytes.items ∷ []) mid new is heading taken.0,
         (
-          subst (λ t. CountHits (lines_hits (lines_of text ++ old.line.bytes.items ∷ [])) (count_at t)) (sym counts)
-              taken.1.0,
+          subst (λ t. CountHits (lines_hits joint (lines_of text ++ old.line.bytes.items ∷ [])) (count_at t))
+              (sym counts) taken.1.0,
           total ∙ taken.1.1,
         ),
       ),

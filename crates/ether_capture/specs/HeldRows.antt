@@ -9,11 +9,11 @@ use Rattle.ether_capture.specs.declared.count.Count.{Count}
 use Rattle.ether_capture.specs.declared.rows.Rows.{Rows}
 
 -- .. if it is known what that holds, unless they have failed
-abbrev pub HoldsRows : (is_known has_failed : Bool) → (holds : Option (List ℕ)) → Rows → Type 0
-HoldsRows false has_failed holds rows = ⊤
-HoldsRows true true holds rows = ⊤
-HoldsRows true false None rows = ⊥
-HoldsRows true false (Some text) rows = Tabulates text rows
+abbrev pub HoldsRows : (joint is_known has_failed : Bool) → (holds : Option (List ℕ)) → Rows → Type 0
+HoldsRows joint false has_failed holds rows = ⊤
+HoldsRows joint true true holds rows = ⊤
+HoldsRows joint true false None rows = ⊥
+HoldsRows joint true false (Some text) rows = Tabulates joint text rows
 
 -- ---- in one way at most
 
@@ -26,15 +26,15 @@ heading-prop : (lines : List (List ℕ)) (rows : Rows) → IsProp (HasHeading li
 heading-prop [] rows = ×_prop (Coded-set coded_bool _ _) (Coded-set (coded_list coded_ℕ) _ _)
 heading-prop (h ∷ hs) rows = ×_prop (Coded-set coded_bool _ _) (Coded-set (coded_list coded_ℕ) _ _)
 
-pub HoldsRows-prop : (is_known has_failed : Bool) (holds : Option (List ℕ)) (rows : Rows)
-    → IsProp (HoldsRows is_known has_failed holds rows)
-HoldsRows-prop false has_failed holds rows = Unit-prop
-HoldsRows-prop true true holds rows = Unit-prop
-HoldsRows-prop true false None rows = λ x y. absurd x
-HoldsRows-prop true false (Some text) rows =
+pub HoldsRows-prop : (joint is_known has_failed : Bool) (holds : Option (List ℕ)) (rows : Rows)
+    → IsProp (HoldsRows joint is_known has_failed holds rows)
+HoldsRows-prop joint false has_failed holds rows = Unit-prop
+HoldsRows-prop joint true true holds rows = Unit-prop
+HoldsRows-prop joint true false None rows = λ x y. absurd x
+HoldsRows-prop joint true false (Some text) rows =
     ×_prop
     (×_prop (heading-prop (lines_of text) rows)
     (×_prop (Π_prop (λ key. Coded-set (coded_option count_code) (count_at rows.counts key)
-    (count_of (lines_hits (lines_of text)) key)))
+    (count_of (lines_hits joint (lines_of text)) key)))
     (Coded-set count_code rows.total (total_of (lines_of text)))))
     (Coded-set (coded_list coded_ℕ) _ _)

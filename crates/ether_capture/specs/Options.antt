@@ -122,6 +122,7 @@ pub record AskedValue : Type 0 where
   pub limit : Option ℕ
   pub format : Option Format
   pub fields : Option Columns
+  pub by : Option Columns
   pub header : Bool
   pub stats : Bool
   pub counted : Option Columns
@@ -145,6 +146,11 @@ abbrev pub named_or_common : Option Columns → List ColumnValue
 named_or_common None = common_columns
 named_or_common (Some columns) = columns_view columns
 
+-- .. by one of two options
+abbrev pub first_columns : (by fields : Option Columns) → Option Columns
+first_columns (Some columns) fields = Some columns
+first_columns None fields = fields
+
 -- .. after the length of the packet, if there are 32 at most
 abbrev pub AreCountedColumns : (stats : Bool) → (fields counted : Option Columns) → Type 0
 AreCountedColumns false fields counted = counted ≡ None
@@ -163,9 +169,10 @@ pub record Asks (rows : List Row) (a : AskedValue) : Type 0 where
   pub limit : IsIfAny IsLimit (first_of (codes "limit") rows) a.limit
   pub format : IsFormat (first_of (codes "format") rows) a.format
   pub fields : IsIfAny AreFields (first_of (codes "fields") rows) a.fields
+  pub by : IsIfAny AreFields (first_of (codes "by") rows) a.by
   pub header : a.header ≡ is_set (codes "header") rows
   pub stats : a.stats ≡ is_set (codes "stats") rows
-  pub counted : AreCountedColumns a.stats a.fields a.counted
+  pub counted : AreCountedColumns a.stats (first_columns a.by a.fields) a.counted
   pub input : a.input ≡ first_of (codes "read") rows
   pub output : a.output ≡ first_of (codes "output") rows
   pub files : a.files ≡ unwrap_or (all_of (codes "file") rows) []
@@ -194,11 +201,12 @@ columns_asked a = if a.stats then a.counted else a.fields
 abbrev pub format_asked : AskedValue → Option Format
 format_asked a = option_map_or (λ columns. Some (Fields columns)) (columns_asked a) a.format
 
--- counts of the texts of columns, as lines of fields or of JSON
-abbrev pub statistics_of : (format : Option Format) → (columns : Option Columns) → Heading
-statistics_of (Some Json) (Some columns) = Statistics counts.Json columns
-statistics_of format (Some columns) = Statistics counts.Text columns
-statistics_of format None = Absent
+-- counts of the texts of columns: of all columns together; or of each, as lines of fields or of JSON
+abbrev pub statistics_of : (joint : Bool) → (format : Option Format) → (columns : Option Columns) → Heading
+statistics_of joint format None = Absent
+statistics_of true format (Some columns) = Statistics counts.Joint columns
+statistics_of false (Some Json) (Some columns) = Statistics counts.Json columns
+statistics_of false format (Some columns) = Statistics counts.Text columns
 
 -- a line of their names
 abbrev pub line_of : (columns : Option Columns) → Heading
@@ -207,17 +215,27 @@ line_of None = Absent
 
 -- what is made of columns
 abbrev pub heading_of : AskedValue → Heading
-heading_of a = if a.stats then statistics_of a.format a.counted else (if a.header then line_of a.fields else Absent)
+heading_of a =
+    if a.stats then statistics_of (is_some a.by) a.format a.counted
+    else (if a.header then line_of a.fields else Absent)
 
 abbrev pub is_brief : Option Format → Bool
 is_brief (Some Brief) = true
 is_brief format = false
 
+abbrev pub is_json : Option Format → Bool
+is_json (Some Json) = true
+is_json format = false
+
+-- columns are counted together, and others by themselves, or as JSON
+abbrev pub clashes_with_by : AskedValue → Bool
+clashes_with_by a = is_some a.by && (is_some a.fields || is_json a.format)
+
 -- columns are no other format; counts have no heading and are not brief, and their columns are 32 at most with the
 -- length of the packet
 abbrev pub clashes_in_columns : AskedValue → Bool
 clashes_in_columns a =
-    if a.stats then a.header || (not (is_some a.counted) || is_brief a.format)
+    if a.stats then a.header || (not (is_some a.counted) || (is_brief a.format || clashes_with_by a))
     else is_some a.format && is_some a.fields
 
 -- no copy is plain, or has a limit or a format; lines alone are plain
@@ -237,12 +255,13 @@ edit_option (PushVlan tpid id) = dependent.PushVlan
 edit_option (SetVlan from to) = dependent.SetVlan
 
 -- an option is there without the one that it needs: no packet is undecided without a filter, names are those of
--- columns, and only a copy is edited
+-- columns, columns are counted together only if some are, and only a copy is edited
 abbrev pub lacking : AskedValue → Option DependentOption
 lacking a =
     if is_some a.undecided && not (is_some a.text) then Some dependent.Undecided
     else (if a.header && (not (is_some a.fields) && not a.stats) then Some dependent.Header
-    else (if makes_copy a then None else option_map edit_option a.edit))
+    else (if is_some a.by && not a.stats then Some dependent.By
+    else (if makes_copy a then None else option_map edit_option a.edit)))
 
 -- the first name
 abbrev pub first_name : List Text → Option Text
@@ -375,7 +394,9 @@ pub data MeansNothing (rows : List Row) : Usage → Type 0 where
   wrong_format : (usage : Usage) → ((f : Option Format) → ¬ (IsFormat (first_of (codes "format") rows) f))
       → IsWrongValue value_options.Format (first_of (codes "format") rows) usage → MeansNothing rows usage
   wrong_fields : (usage : Usage) → ((c : Option Columns) → ¬ (IsIfAny AreFields (first_of (codes "fields") rows) c))
-      → AreWrongFields (first_of (codes "fields") rows) usage → MeansNothing rows usage
+      → AreWrongFields value_options.Fields (first_of (codes "fields") rows) usage → MeansNothing rows usage
+  wrong_by : (usage : Usage) → ((c : Option Columns) → ¬ (IsIfAny AreFields (first_of (codes "by") rows) c))
+      → AreWrongFields value_options.By (first_of (codes "by") rows) usage → MeansNothing rows usage
   wrong_undecided : (usage : Usage)
       → ((u : Option Undecided) → ¬ (IsIfAny MeansUndecided (first_of (codes "undecided") rows) u))
       → IsWrongValue value_options.Undecided (first_of (codes "undecided") rows) usage → MeansNothing rows usage
@@ -429,6 +450,7 @@ asked_view asked = record {
   limit = asked.limit;
   format = asked.format;
   fields = asked.fields;
+  by = asked.by;
   header = asked.has_header;
   stats = asked.is_counted;
   counted = asked.counted;

@@ -1,5 +1,5 @@
 -- Lines of fields. The first line names the columns.
-use Rattle.std.specs.Prelude.{◌==◌, ℕ, ◌+◌, ◌-◌, ◌*◌, List, [], ◌∷◌, ◌++◌, codes, length, map, Option, Some, None, if◌then◌else◌}
+use Rattle.std.specs.Prelude.{◌==◌, ℕ, ◌+◌, ◌-◌, ◌*◌, List, [], ◌∷◌, ◌++◌, codes, length, map, Bool, true, false, Option, Some, None, if◌then◌else◌}
 use Rattle.std.specs.List.{flat_map, sum_by}
 use Rattle.std.specs.Str.{bytes_eq}
 use Rattle.ether_capture.specs.KeyCounts.{Hit, count_of}
@@ -64,20 +64,39 @@ abbrev pub fields_bytes : (fields : List (List ℕ)) → ℕ
 fields_bytes [] = 0
 fields_bytes (len ∷ fields) = counted (decimal_value 0 len)
 
--- the packet counts for each of the others that has a text
-abbrev pub fields_hits : (columns fields : List (List ℕ)) → List Hit
-fields_hits columns fields = hits_under (fields_bytes fields) (keys_in (after_first columns) (after_first fields))
+-- texts with a tab (9) between two
+abbrev pub joined : List (List ℕ) → List ℕ
+joined [] = []
+joined (f ∷ fs) = f ++ flat_map (λ g. 9 ∷ g) fs
 
-abbrev pub row_hits : (heading row : List ℕ) → List Hit
-row_hits heading row = fields_hits (row_fields heading) (row_fields row)
+abbrev pub are_empty : List (List ℕ) → Bool
+are_empty [] = true
+are_empty ([] ∷ fs) = are_empty fs
+are_empty ((b ∷ bs) ∷ fs) = false
+
+-- the key of the texts of all columns together, unless all are empty
+abbrev pub joint_keys : (columns fields : List (List ℕ)) → List (List ℕ)
+joint_keys columns fields = if are_empty fields then [] else key_text (joined columns) (joined fields) ∷ []
+
+-- the packet counts for each of the others that has a text, or for all of them together
+abbrev pub row_keys : (joint : Bool) → (columns fields : List (List ℕ)) → List (List ℕ)
+row_keys false columns fields = keys_in columns fields
+row_keys true columns fields = joint_keys columns fields
+
+abbrev pub fields_hits : (joint : Bool) → (columns fields : List (List ℕ)) → List Hit
+fields_hits joint columns fields =
+    hits_under (fields_bytes fields) (row_keys joint (after_first columns) (after_first fields))
+
+abbrev pub row_hits : (joint : Bool) → (heading row : List ℕ) → List Hit
+row_hits joint heading row = fields_hits joint (row_fields heading) (row_fields row)
 
 abbrev pub row_bytes : (row : List ℕ) → ℕ
 row_bytes row = fields_bytes (row_fields row)
 
 -- of the rows after a heading
-abbrev pub lines_hits : List (List ℕ) → List Hit
-lines_hits [] = []
-lines_hits (heading ∷ rows) = flat_map (row_hits heading) rows
+abbrev pub lines_hits : (joint : Bool) → List (List ℕ) → List Hit
+lines_hits joint [] = []
+lines_hits joint (heading ∷ rows) = flat_map (row_hits joint heading) rows
 
 -- all packets of these rows
 abbrev pub total_of : List (List ℕ) → Count
@@ -88,5 +107,5 @@ total_of (heading ∷ rows) = record { packets = counted (length rows); bytes = 
 abbrev pub with_total : Count → (table : (key : List ℕ) → Option Count) → (key : List ℕ) → Option Count
 with_total total table key = if bytes_eq (key_text (codes "total") []) key then Some total else table key
 
-abbrev pub lines_counts : List (List ℕ) → (key : List ℕ) → Option Count
-lines_counts lines = with_total (total_of lines) (count_of (lines_hits lines))
+abbrev pub lines_counts : (joint : Bool) → List (List ℕ) → (key : List ℕ) → Option Count
+lines_counts joint lines = with_total (total_of lines) (count_of (lines_hits joint lines))

@@ -1,5 +1,5 @@
 -- The lines of a text are counted.
-use Rattle.std.specs.Prelude.{◌≡◌, ℕ, List, [], ◌∷◌, true, false}
+use Rattle.std.specs.Prelude.{◌≡◌, ℕ, List, [], ◌∷◌, Bool, true, false}
 use Rattle.ether_capture.specs.KeyCounts.{CountHits}
 use Rattle.ether_capture.specs.CountTable.{count_at}
 use Rattle.ether_capture.specs.RowFields.{lines_of, last_piece, lines_hits, total_of}
@@ -9,12 +9,12 @@ abbrev pub HasHeading : List (List ℕ) → Rows → Type 0
 HasHeading [] at = (at.has_heading ≡ false) × (at.heading.bytes.items ≡ [])
 HasHeading (heading ∷ rows) at = (at.has_heading ≡ true) × (at.heading.bytes.items ≡ heading)
 
-abbrev pub HasCounts : (lines : List (List ℕ)) → Rows → Type 0
-HasCounts lines at = CountHits (lines_hits lines) (count_at at.counts) × (at.total ≡ total_of lines)
+abbrev pub HasCounts : (joint : Bool) → (lines : List (List ℕ)) → Rows → Type 0
+HasCounts joint lines at = CountHits (lines_hits joint lines) (count_at at.counts) × (at.total ≡ total_of lines)
 
-abbrev pub TabulatesLines : (lines : List (List ℕ)) → Rows → Type 0
-TabulatesLines lines at = HasHeading lines at × HasCounts lines at
+abbrev pub TabulatesLines : (joint : Bool) → (lines : List (List ℕ)) → Rows → Type 0
+TabulatesLines joint lines at = HasHeading lines at × HasCounts joint lines at
 
 -- .. and this follows the last of them
-abbrev pub Tabulates : (text : List ℕ) → Rows → Type 0
-Tabulates text at = TabulatesLines (lines_of text) at × (at.line.bytes.items ≡ last_piece 10 [] text)
+abbrev pub Tabulates : (joint : Bool) → (text : List ℕ) → Rows → Type 0
+Tabulates joint text at = TabulatesLines joint (lines_of text) at × (at.line.bytes.items ≡ last_piece 10 [] text)

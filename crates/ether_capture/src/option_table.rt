@@ -67,7 +67,7 @@ pub(crate) fn all_options() -> &'static [OptionRow<&'static str>]
 }
 
 /// The table of options, in the order of the help.
-pub static OPTIONS: [OptionRow<&str>; 20] = [
+pub static OPTIONS: [OptionRow<&str>; 21] = [
     OptionRow {
         name: "read",
         spelling: Spelling::Letter('r'),
@@ -144,6 +144,13 @@ pub static OPTIONS: [OptionRow<&str>; 20] = [
         value: None,
         group: "Lines",
         help: "count packets and bytes by the values of COLUMNS, or without --fields of headers, VLANs, types, faults and ARP senders",
+    },
+    OptionRow {
+        name: "by",
+        spelling: Spelling::Name,
+        value: Some("COLUMNS"),
+        group: "Lines",
+        help: "with --stats, count by the values of all COLUMNS together, as arp.spa,arp.sha",
     },
     OptionRow {
         name: "status-on-fault",

@@ -8,14 +8,14 @@ ghost use Rattle.ether_capture.specs.Options.{Asks, IsEdit, IsWrongEditOf, KindN
 ghost use Rattle.ether_capture.specs.OptionTable.{option_rule, option_view, with_option};
 
 use crate::option_table::{OptionRow, Spelling, all_options};
-use crate::request::{Asked, Request, RequestError, counted_of};
+use crate::request::{Asked, Request, RequestError, counted_of, first_of};
 use crate::wrong_words::usage_of;
 use clap::error::ErrorKind;
 use clap::{Arg, ArgAction, ArgMatches, Command};
 use ether_content::PacketEdit;
 use ether_stream::{
-    Usage, count_of, edit_of_words, fields_of, format_of, limit_of, status_on_fault_of,
-    undecided_of,
+    Usage, ValueOption, count_of, edit_of_words, fields_of, format_of, limit_of,
+    status_on_fault_of, undecided_of,
 };
 use std::alloc::{AllocError, Global};
 use std::env;
@@ -124,7 +124,8 @@ impl<'a> Asked<'a> {
         let count = count_of(text_of(matches, "count"))?;
         let limit = limit_of(text_of(matches, "limit"))?;
         let format = format_of(text_of(matches, "format"))?;
-        let fields = fields_of(text_of(matches, "fields"))?;
+        let fields = fields_of(ValueOption::Fields, text_of(matches, "fields"))?;
+        let by = fields_of(ValueOption::By, text_of(matches, "by"))?;
         let is_counted = is_set(matches, "stats");
         let undecided = undecided_of(text_of(matches, "undecided"))?;
         let status_on_fault = status_on_fault_of(text_of(matches, "status-on-fault"))?;
@@ -143,7 +144,8 @@ impl<'a> Asked<'a> {
             limit,
             format,
             fields,
-            counted: counted_of(is_counted, &fields),
+            by,
+            counted: counted_of(is_counted, &first_of(by, fields)),
             input: text_of(matches, "read"),
             output: text_of(matches, "output"),
             files,

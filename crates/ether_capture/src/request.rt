@@ -5,7 +5,7 @@ ghost use Rattle.std.specs.Option.{is_some, option_map};
 ghost use Rattle.ether_pcap.specs.CopiedUnits.{copy_mode_view};
 ghost use Rattle.ether_stream.specs.Copying.{growth_if};
 ghost use Rattle.ether_stream.specs.Task.{form_view};
-ghost use Rattle.ether_capture.specs.Options.{AreCountedColumns, Fits, IsFaultOf, IsRequestOf, RefusesAsked, are_several, asked_view, edit_option, excuses, lacking, names_input, names_input_twice, surplus, clashes, clashes_in_columns, columns_asked, columns_in, is_brief, line_of, statistics_asked, statistics_in, statistics_of, form_of, format_asked, heading_of, mode_of, options_of, request_view, input_of, makes_copy, named, output_of, selection_of};
+ghost use Rattle.ether_capture.specs.Options.{AreCountedColumns, Fits, IsFaultOf, IsRequestOf, RefusesAsked, are_several, asked_view, edit_option, excuses, first_columns, is_json, lacking, names_input, names_input_twice, surplus, clashes, clashes_in_columns, clashes_with_by, columns_asked, columns_in, is_brief, line_of, statistics_asked, statistics_in, statistics_of, form_of, format_asked, heading_of, mode_of, options_of, request_view, input_of, makes_copy, named, output_of, selection_of};
 
 use crate::statistics_format::StatisticsFormat;
 use ether_content::PacketEdit;
@@ -110,6 +110,7 @@ pub(crate) struct Asked<'a> {
     pub(crate) limit: Option<usize>,
     pub(crate) format: Option<Format>,
     pub(crate) fields: Option<Columns>,
+    pub(crate) by: Option<Columns>,
     /// The columns whose texts are counted, if that is asked for and there are 32 at most.
     pub(crate) counted: Option<Columns>,
     pub(crate) input: Option<&'a str>,
@@ -162,6 +163,9 @@ impl<'a> Asked<'a> {
         if self.has_header && self.fields.is_none() && !self.is_counted {
             return Some(DependentOption::Header);
         }
+        if self.by.is_some() && !self.is_counted {
+            return Some(DependentOption::By);
+        }
         if self.is_copy() {
             return None;
         }
@@ -200,9 +204,26 @@ impl<'a> Asked<'a> {
         ensures { result ≡ clashes_in_columns (asked_view self.now) }
     {
         if self.is_counted {
-            return self.has_header || self.counted.is_none() || self.is_brief();
+            return self.has_header
+                || self.counted.is_none()
+                || self.is_brief()
+                || self.clashes_with_by();
         }
         self.format.is_some() && self.fields.is_some()
+    }
+
+    /// Tests that columns are counted together, and also by themselves or as JSON.
+    fn clashes_with_by(&self) -> bool
+        ensures { result ≡ clashes_with_by (asked_view self.now) }
+    {
+        self.by.is_some() && (self.fields.is_some() || self.is_json())
+    }
+
+    /// Tests that objects of JSON are asked for.
+    fn is_json(&self) -> bool
+        ensures { result ≡ is_json self.now.format }
+    {
+        matches!(self.format, Some(Format::Json))
     }
 
     /// Tests that lines for the eye are asked for.
@@ -244,7 +265,7 @@ impl<'a> Asked<'a> {
         ensures { result ≡ heading_of (asked_view self.now) }
     {
         if self.is_counted {
-            return statistics_of(&self.format, &self.counted);
+            return statistics_of(self.by.is_some(), &self.format, &self.counted);
         }
         if self.has_header {
             return line_of(&self.fields);
@@ -416,11 +437,22 @@ fn names_input(names: &[&str]) -> bool
     false
 }
 
-/// Counts of the texts of columns, in a format.
-fn statistics_of(format: &Option<Format>, columns: &Option<Columns>) -> Heading
-    ensures { result ≡ statistics_of format.now columns.now }
+/// The columns of the first option that is there.
+pub(crate) fn first_of(by: Option<Columns>, fields: Option<Columns>) -> Option<Columns>
+    ensures { result ≡ first_columns by fields }
+{
+    match by {
+        Some(columns) => Some(columns),
+        None => fields,
+    }
+}
+
+/// Counts of the texts of columns, of each or of all together, in a format.
+fn statistics_of(is_joint: bool, format: &Option<Format>, columns: &Option<Columns>) -> Heading
+    ensures { result ≡ statistics_of is_joint format.now columns.now }
 {
     match (columns, format) {
+        (Some(columns), _) if is_joint => Heading::Statistics(StatisticsFormat::Joint, *columns),
         (Some(columns), Some(Format::Json)) => {
             Heading::Statistics(StatisticsFormat::Json, *columns)
         }

@@ -1,17 +1,18 @@
 //! Rows of columns, whose texts are counted.
-ghost use Rattle.std.specs.Prelude.{◌≡◌, ◌==◌, ◌++◌, ◌∷◌, [], ℕ, List, IfOk, OnOk, IfSome, IfNone, false};
+ghost use Rattle.std.specs.Prelude.{◌≡◌, ◌==◌, ◌++◌, ◌∷◌, [], ℕ, Bool, List, IfOk, OnOk, IfSome, IfNone, true, false, unwrap_or};
 ghost use Rattle.std.specs.Option.{option_map};
 ghost use Rattle.std.specs.List.{All};
 ghost use Rattle.ether_capture.specs.KeyCounts.{AddsHit, Hit, CountHits};
 ghost use Rattle.ether_stream.specs.Packets.{counted};
 ghost use Rattle.ether_capture.specs.CountTable.{count_at};
-ghost use Rattle.ether_capture.specs.RowFields.{row_fields, fields_if, decimal_value, key_text, row_bytes, row_hits, with_total};
+ghost use Rattle.ether_capture.specs.RowFields.{are_empty, row_fields, fields_if, decimal_value, key_text, row_bytes, row_hits, with_total};
 ghost use Rattle.ether_format.specs.Splits.{SplitsAt};
 ghost use Rattle.ether_capture.specs.Statistics.{TakesStatistics};
 ghost use Rattle.ether_capture.specs.Tabulating.{TabulatesLines, Tabulates};
 
 use crate::count::Count;
 use crate::count_table::CountTable;
+use crate::grouping::Grouping;
 use crate::heap_text::HeapText;
 use crate::statistics_format::StatisticsFormat;
 use ether_format::split_at;
@@ -33,7 +34,7 @@ pub struct Rows {
 impl Rows {
     /// No line yet.
     pub fn new(alloc: Global) -> Rows
-        ensures { Tabulates [] result }
+        ensures { (joint : Bool) → Tabulates joint [] result }
     {
         Rows {
             heading: HeapText::new(alloc),
@@ -49,13 +50,16 @@ impl Rows {
     }
 
     /// Takes the next bytes. Returns [`NoMemory`] if memory for them is refused.
-    pub fn take(&mut self, bytes: &[u8]) -> Result<(), NoMemory>
-        ensures { (text : List ℕ) → Tabulates text self.old → OnOk result (Tabulates (text ++ bytes.now) self.new) }
+    ///
+    /// `G` says whether columns are counted together, and must always be the same.
+    pub fn take<G: Grouping>(&mut self, bytes: &[u8]) -> Result<(), NoMemory>
+        ensures { (text : List ℕ) → Tabulates G.is_joint text self.old
+            → OnOk result (Tabulates G.is_joint (text ++ bytes.now) self.new) }
     {
         let mut rest = bytes;
         while let Some((before, after)) = split_at(b'\n', rest) {
             self.extend_line(before)?;
-            self.end_line()?;
+            self.end_line::<G>()?;
             rest = after;
         }
         self.extend_line(rest)?;
@@ -80,34 +84,34 @@ impl Rows {
 
     /// Takes bytes of the line.
     fn extend_line(&mut self, bytes: &[u8]) -> Result<(), NoMemory>
-        ensures { (text : List ℕ) → Tabulates text self.old → All (λ it. (it == 10) ≡ false) bytes.now
-            → OnOk result (Tabulates (text ++ bytes.now) self.new) }
+        ensures { (joint : Bool) (text : List ℕ) → Tabulates joint text self.old
+            → All (λ it. (it == 10) ≡ false) bytes.now → OnOk result (Tabulates joint (text ++ bytes.now) self.new) }
     {
         self.line.append(bytes)?;
         Ok(())
     }
 
     /// Ends the line, which is the heading or a row.
-    fn end_line(&mut self) -> Result<(), NoMemory>
-        ensures { (text : List ℕ) → Tabulates text self.old
-            → OnOk result (Tabulates (text ++ 10 ∷ []) self.new) }
+    fn end_line<G: Grouping>(&mut self) -> Result<(), NoMemory>
+        ensures { (text : List ℕ) → Tabulates G.is_joint text self.old
+            → OnOk result (Tabulates G.is_joint (text ++ 10 ∷ []) self.new) }
     {
-        self.take_line()?;
+        self.take_line::<G>()?;
         self.line.clear();
         Ok(())
     }
 
     /// Takes the line as the heading if there is none yet, or counts it.
-    fn take_line(&mut self) -> Result<(), NoMemory>
-        ensures { (lines : List (List ℕ)) → TabulatesLines lines self.old
-            → OnOk result (TabulatesLines (lines ++ self.old.line.bytes.items ∷ []) self.new) }
+    fn take_line<G: Grouping>(&mut self) -> Result<(), NoMemory>
+        ensures { (lines : List (List ℕ)) → TabulatesLines G.is_joint lines self.old
+            → OnOk result (TabulatesLines G.is_joint (lines ++ self.old.line.bytes.items ∷ []) self.new) }
     {
         if !self.has_heading {
             self.heading.append(self.line.as_slice())?;
             self.has_heading = true;
             return Ok(());
         }
-        let bytes = count_row(
+        let bytes = count_line::<G>(
             self.heading.as_slice(),
             self.line.as_slice(),
             &mut self.key,
@@ -116,6 +120,72 @@ impl Rows {
         self.total = self.total.with(bytes);
         Ok(())
     }
+}
+
+/// Counts a packet for the texts of its row, of all columns together or of each. Returns how many bytes the packet had.
+#[inline(always)]
+fn count_line<G: Grouping>(
+    heading: &[u8],
+    row: &[u8],
+    key: &mut HeapText,
+    counts: &mut CountTable,
+) -> Result<usize, NoMemory>
+    ensures bytes { IfOk result (λ n. n ≡ row_bytes row.now) }
+    ensures counts { (hits : List Hit) → CountHits hits (count_at counts.old)
+        → OnOk result (CountHits (hits ++ row_hits G.is_joint heading.now row.now) (count_at counts.new)) }
+{
+    if G::is_joint() {
+        return count_together(heading, row, key, counts);
+    }
+    count_row(heading, row, key, counts)
+}
+
+/// Counts a packet for the texts of all columns of its row together, unless all are empty. Returns how many bytes the
+/// packet had.
+fn count_together(
+    heading: &[u8],
+    row: &[u8],
+    key: &mut HeapText,
+    counts: &mut CountTable,
+) -> Result<usize, NoMemory>
+    ensures bytes { IfOk result (λ n. n ≡ row_bytes row.now) }
+    ensures counts { (hits : List Hit) → CountHits hits (count_at counts.old)
+        → OnOk result (CountHits (hits ++ row_hits true heading.now row.now) (count_at counts.new)) }
+{
+    let (_, columns) = first_field(heading);
+    let (len, fields) = first_field(row);
+    let bytes = decimal_value(len);
+    if let Some(texts) = fields {
+        if !are_empty(texts) {
+            count(or_nothing(columns), texts, bytes, key, counts)?;
+        }
+    }
+    Ok(bytes)
+}
+
+/// A text, or nothing if there is none.
+fn or_nothing(text: Option<&[u8]>) -> &[u8]
+    ensures { result.now ≡ unwrap_or (option_map (λ s. s.now) text.entry) [] }
+{
+    match text {
+        Some(text) => text,
+        None => b"",
+    }
+}
+
+/// Tests that all fields are empty.
+fn are_empty(texts: &[u8]) -> bool
+    ensures { result ≡ are_empty (row_fields texts.now) }
+{
+    let mut rest = Some(texts);
+    while let Some(left) = rest {
+        let (text, later) = first_field(left);
+        if !text.is_empty() {
+            return false;
+        }
+        rest = later;
+    }
+    true
 }
 
 /// Counts a packet for each text of the columns of its row. Returns how many bytes the packet had.
@@ -127,7 +197,7 @@ fn count_row(
 ) -> Result<usize, NoMemory>
     ensures bytes { IfOk result (λ n. n ≡ row_bytes row.now) }
     ensures counts { (hits : List Hit) → CountHits hits (count_at counts.old)
-        → OnOk result (CountHits (hits ++ row_hits heading.now row.now) (count_at counts.new)) }
+        → OnOk result (CountHits (hits ++ row_hits false heading.now row.now) (count_at counts.new)) }
 {
     let (_, mut columns) = first_field(heading);
     let (len, mut fields) = first_field(row);

@@ -2,32 +2,36 @@
 ghost use Rattle.std.specs.Prelude.{◌≡◌, ◌⊎◌, ⊤, false, IfErr, OnOk};
 ghost use Rattle.ether_capture.specs.HeldRows.{HoldsRows, HoldsRows-prop};
 ghost use Rattle.ether_capture.specs.Journal.{known_if};
-ghost use Rattle.ether_capture.specs.Statistics.{Shows};
+ghost use Rattle.ether_capture.specs.Statistics.{is_joint, Shows};
 ghost use Rattle.ether_stream.specs.declared.outcome.RunFault.TheVariants.{Memory, Output};
 
+use crate::grouping::Grouping;
 use crate::journal::Journal;
 use crate::rows::Rows;
 use crate::statistics_format::StatisticsFormat;
 use ether_output::{OutputBuffer, OutputFault, Sink};
 use ether_stream::RunFault;
 use std::alloc::Global;
+use std::marker::PhantomData;
 
-/// A sink of rows, whose texts are counted.
+/// A sink of rows, whose texts are counted: by themselves, or those of all columns together.
 #[derive(Drop)]
-pub struct Statistics<J: Journal> {
+pub struct Statistics<J: Journal, G: Grouping> {
     journal: J,
+    grouping: PhantomData<G>,
     rows: Rows,
     has_failed: bool,
-    ghost kept: { HoldsRows J.is_known has_failed (J.Sink.contents journal) rows } by { HoldsRows-prop J.is_known has_failed (J.Sink.contents journal) rows },
+    ghost kept: { HoldsRows G.is_joint J.is_known has_failed (J.Sink.contents journal) rows } by { HoldsRows-prop G.is_joint J.is_known has_failed (J.Sink.contents journal) rows },
 }
 
-impl<J: Journal> Statistics<J> {
+impl<J: Journal, G: Grouping> Statistics<J, G> {
     /// No row is counted yet.
-    pub fn new(alloc: Global) -> Statistics<J>
+    pub fn new(alloc: Global) -> Self
         ensures { J.Sink.contents result.journal ≡ known_if J.is_known }
     {
         Statistics {
             journal: J::start(),
+            grouping: PhantomData,
             rows: Rows::new(alloc),
             has_failed: false,
         }
@@ -48,8 +52,8 @@ impl<J: Journal> Statistics<J> {
         writer: &mut W,
     ) -> Result<(), RunFault>
         ensures written { OnOk result (self.old.has_failed ≡ false
-            → Shows J.is_known (J.Sink.contents self.old.journal) format (W.contents writer.old)
-            (W.contents writer.new)) }
+            → is_joint format ≡ G.is_joint → Shows J.is_known (J.Sink.contents self.old.journal) format
+            (W.contents writer.old) (W.contents writer.new)) }
         ensures flushed { OnOk result (W.is_flushed writer.new) }
         ensures failed { IfErr result (λ fault. ((fault ≡ Memory) × (writer.new ≡ writer.old))
             ⊎ ((fault ≡ Output) × W.can_fail)) }
@@ -63,7 +67,7 @@ impl<J: Journal> Statistics<J> {
     }
 }
 
-impl<J: Journal> Sink for Statistics<J> {
+impl<J: Journal, G: Grouping> Sink for Statistics<J, G> {
     ghost contents = { λ counted. J.Sink.contents counted.journal };
 
     ghost can_fail = { ⊤ };
@@ -76,7 +80,7 @@ impl<J: Journal> Sink for Statistics<J> {
         }
         self.has_failed = true;
         self.journal.put(bytes)?;
-        let Ok(()) = self.rows.take(bytes) else {
+        let Ok(()) = self.rows.take::<G>(bytes) else {
             return Err(OutputFault);
         };
         self.has_failed = false;

@@ -2,19 +2,31 @@
 ghost use Rattle.std.specs.Prelude.{◌≡◌};
 ghost use Rattle.ether_capture.specs.RowFields.{after_first, row_fields};
 ghost use Rattle.ether_output.specs.OutputBuffer.{Takes};
-ghost use Rattle.ether_capture.specs.Statistics.{first_in, statistics_line};
+ghost use Rattle.ether_capture.specs.Statistics.{fields_line, first_in, is_joint, statistics_line};
 
 use crate::count::Count;
 use crate::rows::first_field;
 use ether_output::{OutputBuffer, Sink, write_decimal};
 
-/// How counts are written.
+/// What is counted, and how counts are written.
 #[derive(Clone, Copy, PartialEq, Eq, Debug)]
 pub enum StatisticsFormat {
     /// Lines of four fields, with a tab between two: column, text, packets and bytes.
     Text,
     /// Lines of JSON (RFC 8259), each an object with these four members.
     Json,
+    /// Packets are counted by the texts of all columns together. Lines have the names of the columns, their texts, the
+    /// packets and the bytes, with a tab between two.
+    Joint,
+}
+
+impl StatisticsFormat {
+    /// Tests that packets are counted by the texts of all columns together.
+    pub(crate) fn is_joint(self) -> bool
+        ensures { result ≡ is_joint self }
+    {
+        matches!(self, StatisticsFormat::Joint)
+    }
 }
 
 /// Writes the line of a key and its count.
@@ -28,14 +40,8 @@ pub(crate) fn write_statistic<W: Sink>(
         out.new }
 {
     match format {
-        StatisticsFormat::Text => {
-            out.append(key);
-            out.append(b"\t");
-            write_decimal(out, count.packets as u64);
-            out.append(b"\t");
-            write_decimal(out, count.bytes as u64);
-            out.append(b"\n");
-        }
+        StatisticsFormat::Text => write_fields(key, count, out),
+        StatisticsFormat::Joint => write_fields(key, count, out),
         StatisticsFormat::Json => {
             let (column, text) = parts_of(key);
             out.append(b"{\"column\":\"");
@@ -49,6 +55,18 @@ pub(crate) fn write_statistic<W: Sink>(
             out.append(b"}\n");
         }
     }
+}
+
+/// Writes a key and its count as fields, with a tab between two.
+fn write_fields<W: Sink>(key: &[u8], count: Count, out: &mut OutputBuffer<'_, W>)
+    ensures { Takes W.contents W.can_fail out.old (fields_line (record { key = key.now; count = count })) out.new }
+{
+    out.append(key);
+    out.append(b"\t");
+    write_decimal(out, count.packets as u64);
+    out.append(b"\t");
+    write_decimal(out, count.bytes as u64);
+    out.append(b"\n");
 }
 
 /// The column and the text of a key.

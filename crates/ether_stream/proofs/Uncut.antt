@@ -1,8 +1,8 @@
 -- A packet that was not cut is never undecided.
-use Rattle.std.proofs.Common.{◌≡◌, ℕ, ◌-◌, ◌<◌, ◌≤◌, length, arith, false}
+use Rattle.std.proofs.Common.{◌≡◌, length, arith, false}
 use Rattle.std.proofs.lemmas.Bool.{ltb-false}
 use Rattle.std.proofs.lemmas.List.{length-take}
-use Rattle.ether_content.specs.Content.{fcs_len, is_cut, whole_len}
+use Rattle.ether_content.specs.Content.{is_cut, whole_len}
 use Rattle.ether_content.specs.Selecting.{IsUndecided, missing_len}
 use Rattle.ether_content.specs.Selecting as selecting
 use Rattle.ether_filter.specs.Expressions.{Expression}

@@ -1,5 +1,5 @@
 -- Which edit of VLAN tags a kind and a text ask for.
-use Rattle.std.proofs.Common.{◌≡◌, ℕ, ◌<◌, List, true, Some, None, refl, sym, ap, subst, ◌∙◌, arith, rules}
+use Rattle.std.proofs.Common.{◌≡◌, ℕ, ◌<◌, List, true, Some, None, refl, sym, ap, subst, ◌∙◌, rules}
 use Rattle.std.specs.Prelude.{Option, unwrap_or, IfSome, IfNone}
 use Rattle.ether_base.specs.Formats.Vlan.{is_vlan_ether_type}
 use Rattle.ether_filter.specs.Numerals.{number_in}

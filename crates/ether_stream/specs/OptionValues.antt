@@ -16,6 +16,7 @@ use Rattle.ether_stream.specs.Usage.{IsWrongValue}
 use Rattle.ether_stream.specs.declared.option_values.TheConstants.{BRIEF, DROP, JSON, KEEP, LINES, NO, YES}
 use Rattle.ether_stream.specs.declared.usage.Usage.{Usage}
 use Rattle.ether_stream.specs.declared.usage.Usage.TheVariants as usages
+use Rattle.ether_stream.specs.declared.usage.ValueOption.{ValueOption}
 use Rattle.ether_stream.specs.declared.usage.ValueOption.TheVariants as value_options
 use Rattle.ether_stream.specs.declared.vlan_options.TagEdit.TheVariants as tag_edits
 use Rattle.ether_stream.specs.declared.selection.Undecided.{Undecided}
@@ -58,11 +59,12 @@ abbrev pub AreFields : List ℕ → Columns → Type 0
 AreFields text columns = AreColumns text (columns_view columns)
 
 -- .. or a name that no column has, the first of them, or too many
-abbrev pub AreWrongFields : Option (List ℕ) → Usage → Type 0
-AreWrongFields (Some text) (usages.NoColumn name) = IsUnknownIn (slice_split (λ b. b == 44) text) (Some name.now)
-AreWrongFields (Some text) (usages.Value value_options.Fields named) =
-    (named.now ≡ text) × IsUnknownIn (slice_split (λ b. b == 44) text) None
-AreWrongFields text usage = ⊥
+abbrev pub AreWrongFields : ValueOption → Option (List ℕ) → Usage → Type 0
+AreWrongFields option (Some text) (usages.NoColumn named name) =
+    (named ≡ option) × IsUnknownIn (slice_split (λ b. b == 44) text) (Some name.now)
+AreWrongFields option (Some text) (usages.Value named wrong) =
+    (named ≡ option) × (wrong.now ≡ text) × IsUnknownIn (slice_split (λ b. b == 44) text) None
+AreWrongFields option text usage = ⊥
 
 -- one edit at most
 abbrev pub IsOneEdit : (cuts pops : Bool) → (push set : Option (List ℕ)) → Option EditValue → Type 0

@@ -1,6 +1,6 @@
 -- What is wrong with the words of a request.
 use Rattle.std.specs.Prelude.{◌≡◌, ℕ, List, ◌++◌, codes, Option, Some}
-use Rattle.ether_stream.specs.declared.messages.TheConstants.{CLASH, COLUMNS, COPIES, COUNT, CUT_TO_HEADERS, EDITS, FIELDS, FORMAT, FORMATS, HEADER, HEADERS, INPUT_TWICE, KEEP_OR_DROP, LIMIT, NO_COLUMN, NO_OPTION, NO_VALUE, PACKETS, POP_VLAN, PUSH_VLAN, PUSHED_TAG, SELECT, SET_VLAN, STATUS_ON_FAULT, SURPLUS, TWICE, TWO_IDENTIFIERS, UNDECIDED, YES_OR_NO}
+use Rattle.ether_stream.specs.declared.messages.TheConstants.{BY, CLASH, COLUMNS, COPIES, COUNT, CUT_TO_HEADERS, EDITS, FIELDS, FORMAT, FORMATS, HEADER, HEADERS, INPUT_TWICE, KEEP_OR_DROP, LIMIT, NO_COLUMN, NO_OPTION, NO_VALUE, PACKETS, POP_VLAN, PUSH_VLAN, PUSHED_TAG, SELECT, SET_VLAN, STATS, STATUS_ON_FAULT, SURPLUS, TWICE, TWO_IDENTIFIERS, UNDECIDED, YES_OR_NO}
 use Rattle.ether_stream.specs.declared.usage.DependentOption.{DependentOption}
 use Rattle.ether_stream.specs.declared.usage.DependentOption.TheVariants as dependent
 use Rattle.ether_stream.specs.declared.usage.Usage.{Usage}
@@ -18,6 +18,7 @@ option_text value_options.Undecided = UNDECIDED.now
 option_text value_options.StatusOnFault = STATUS_ON_FAULT.now
 option_text value_options.Format = FORMAT.now
 option_text value_options.Fields = FIELDS.now
+option_text value_options.By = BY.now
 
 -- the values that it takes
 abbrev pub expected_text : ValueOption → List ℕ
@@ -29,11 +30,13 @@ expected_text value_options.Undecided = KEEP_OR_DROP.now
 expected_text value_options.StatusOnFault = YES_OR_NO.now
 expected_text value_options.Format = FORMATS.now
 expected_text value_options.Fields = COLUMNS.now
+expected_text value_options.By = COLUMNS.now
 
 -- an option that needs another one
 abbrev pub dependent_text : DependentOption → List ℕ
 dependent_text dependent.Undecided = UNDECIDED.now
 dependent_text dependent.Header = HEADER.now
+dependent_text dependent.By = BY.now
 dependent_text dependent.CutToHeaders = CUT_TO_HEADERS.now
 dependent_text dependent.PopVlan = POP_VLAN.now
 dependent_text dependent.PushVlan = PUSH_VLAN.now
@@ -43,6 +46,7 @@ dependent_text dependent.SetVlan = SET_VLAN.now
 abbrev pub needed_text : DependentOption → List ℕ
 needed_text dependent.Undecided = SELECT.now
 needed_text dependent.Header = FIELDS.now
+needed_text dependent.By = STATS.now
 needed_text option = COPIES.now
 
 -- what is said of words, with a colon after what it is said of
@@ -55,8 +59,8 @@ usage_text (usages.Lacks option) = dependent_text option ++ (codes " needs " ++ 
 usage_text (usages.Surplus name) = name.now ++ (codes ": " ++ SURPLUS.now)
 usage_text usages.InputTwice = INPUT_TWICE.now
 usage_text usages.Edits = EDITS.now
-usage_text (usages.NoColumn name) =
-    FIELDS.now ++ (codes ": " ++ (NO_COLUMN.now ++ (codes " '" ++ (name.now ++ codes "'"))))
+usage_text (usages.NoColumn option name) =
+    option_text option ++ (codes ": " ++ (NO_COLUMN.now ++ (codes " '" ++ (name.now ++ codes "'"))))
 usage_text (usages.Value option text) =
     option_text option ++ (codes " '" ++ (text.now ++ (codes "': expected " ++ expected_text option)))
 

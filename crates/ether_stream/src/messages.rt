@@ -52,6 +52,8 @@ pub(crate) const OTHER_VERSION: &str = " editcap converts it.";
 
 // ---- options, as they are written
 
+pub(crate) const BY: &str = "--by";
+
 pub(crate) const COUNT: &str = "-c";
 
 pub(crate) const CUT_TO_HEADERS: &str = "--cut-to-headers";
@@ -71,6 +73,8 @@ pub(crate) const PUSH_VLAN: &str = "--push-vlan";
 pub(crate) const SELECT: &str = "--select";
 
 pub(crate) const SET_VLAN: &str = "--set-vlan";
+
+pub(crate) const STATS: &str = "--stats";
 
 pub(crate) const STATUS_ON_FAULT: &str = "--status-on-fault";
 

@@ -132,13 +132,16 @@ pub fn status_on_fault_of<'a>(text: Option<&'a str>) -> Result<Option<bool>, Usa
     }
 }
 
-/// The value of `--fields`, if there is one: names of columns. Returns [`Usage::NoColumn`] with the first name that
-/// no column has, or [`Usage::Value`] if there are more than 32.
-pub fn fields_of<'a>(text: Option<&'a str>) -> Result<Option<Columns>, Usage<'a>>
+/// The value of `--fields` or `--by`, if there is one: names of columns. Returns [`Usage::NoColumn`] with the first name
+/// that no column has, or [`Usage::Value`] if there are more than 32.
+pub fn fields_of<'a>(
+    option: ValueOption,
+    text: Option<&'a str>,
+) -> Result<Option<Columns>, Usage<'a>>
     ensures ok { IfOk result (IsIfAny AreFields (option_map (λ s. s.now) text.entry)) }
     ensures err { OnErr result ((columns : Option ColumnsValue)
         → ¬ (IsIfAny AreFields (option_map (λ s. s.now) text.entry) columns)) }
-    ensures usage { IfErr result (AreWrongFields (option_map (λ s. s.now) text.entry)) }
+    ensures usage { IfErr result (AreWrongFields option (option_map (λ s. s.now) text.entry)) }
 {
     let Some(text) = text else {
         return Ok(None);
@@ -147,8 +150,8 @@ pub fn fields_of<'a>(text: Option<&'a str>) -> Result<Option<Columns>, Usage<'a>
         return Ok(Some(columns));
     }
     match Columns::unknown_name(text) {
-        Some(name) => Err(Usage::NoColumn(name)),
-        None => Err(Usage::Value(ValueOption::Fields, text)),
+        Some(name) => Err(Usage::NoColumn(option, name)),
+        None => Err(Usage::Value(option, text)),
     }
 }
 

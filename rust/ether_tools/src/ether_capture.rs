@@ -9,6 +9,7 @@ pub mod copy_files;
 pub mod copy_run;
 pub mod count;
 pub mod count_table;
+pub mod grouping;
 pub mod heap_memory;
 pub mod heap_text;
 pub mod interface_buffer;

@@ -56,7 +56,7 @@ pub(in crate::ether_capture) fn all_options() -> &'static [OptionRow<&'static st
 }
 
 /// The table of options, in the order of the help.
-pub static OPTIONS: [OptionRow<&str>; 20] = [
+pub static OPTIONS: [OptionRow<&str>; 21] = [
     OptionRow {
         name: "read",
         spelling: Spelling::Letter('r'),
@@ -133,6 +133,13 @@ pub static OPTIONS: [OptionRow<&str>; 20] = [
         value: None,
         group: "Lines",
         help: "count packets and bytes by the values of COLUMNS, or without --fields of headers, VLANs, types, faults and ARP senders",
+    },
+    OptionRow {
+        name: "by",
+        spelling: Spelling::Name,
+        value: Some("COLUMNS"),
+        group: "Lines",
+        help: "with --stats, count by the values of all COLUMNS together, as arp.spa,arp.sha",
     },
     OptionRow {
         name: "status-on-fault",

@@ -1,8 +1,8 @@
 //! What the arguments ask for, by their words, which `clap` reads. Written by hand, not proved.
 use crate::ether_capture::option_table::{OPTIONS, OptionRow, Spelling};
-use crate::ether_capture::request::{Asked, Request, RequestError, counted_of};
+use crate::ether_capture::request::{Asked, Request, RequestError, counted_of, first_of};
 use crate::ether_capture::wrong_words::usage_of;
-use crate::ether_stream::{Usage, count_of, edit_of_words, fields_of, format_of, limit_of, status_on_fault_of, undecided_of};
+use crate::ether_stream::{Usage, ValueOption, count_of, edit_of_words, fields_of, format_of, limit_of, status_on_fault_of, undecided_of};
 use crate::ether_capture::memory::Global;
 use clap::error::ErrorKind;
 use clap::{Arg, ArgAction, ArgMatches, Command, ValueHint};
@@ -46,7 +46,8 @@ fn asked<'a>(matches: &ArgMatches, words: &'a [String]) -> Result<Asked<'a>, Usa
     let (cuts, pops) = (matches.get_flag("cut-to-headers"), matches.get_flag("pop-vlan"));
     let (push, set) = (text_of(matches, words, "push-vlan"), text_of(matches, words, "set-vlan"));
     let is_counted = matches.get_flag("stats");
-    let fields = fields_of(text_of(matches, words, "fields"))?;
+    let fields = fields_of(ValueOption::Fields, text_of(matches, words, "fields"))?;
+    let by = fields_of(ValueOption::By, text_of(matches, words, "by"))?;
     Ok(Asked {
         is_plain: matches.get_flag("plain"),
         is_write: matches.get_flag("write"),
@@ -61,7 +62,8 @@ fn asked<'a>(matches: &ArgMatches, words: &'a [String]) -> Result<Asked<'a>, Usa
         limit: limit_of(text_of(matches, words, "limit"))?,
         format: format_of(text_of(matches, words, "format"))?,
         fields,
-        counted: counted_of(is_counted, &fields),
+        by,
+        counted: counted_of(is_counted, &first_of(by, fields)),
         input: text_of(matches, words, "read"),
         output: text_of(matches, words, "output"),
         files: texts_of(matches, words, "file"),

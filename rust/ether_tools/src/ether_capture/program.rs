@@ -3,12 +3,14 @@
 use crate::ether_capture::captures::Captures;
 use crate::ether_capture::copies::Copies;
 use crate::ether_capture::copy_run::{copy_file, copy_input};
+use crate::ether_capture::grouping::{Each, Grouping, Together};
 use crate::ether_capture::journal::Journal;
 use crate::ether_capture::options::request_of_words;
 use crate::ether_capture::request::{Job, Request, RequestError};
 use crate::ether_capture::run_input::run_input;
 use crate::ether_capture::several_files::run_files;
 use crate::ether_capture::statistics::Statistics;
+use crate::ether_capture::statistics_format::StatisticsFormat;
 use etherpeel::ether_format::Columns;
 use etherpeel::ether_output::{OutputBuffer, OutputFault, Sink};
 use crate::ether_stream::{LineSink, Outcome, RunFault, Task, is_message, last_line, program_status};
@@ -106,7 +108,38 @@ fn carry_out_request<
     let Some(format) = request.statistics() else {
         return write_lines_or_copy(request, alloc, captures, copies, reader, writer, messages);
     };
-    let mut counts = Statistics::<J>::new(alloc);
+    if format.is_joint() {
+        count_rows::<J, Together, C, K, R, W, M>(
+            request, format, alloc, captures, copies, reader, writer, messages,
+        )
+    } else {
+        count_rows::<J, Each, C, K, R, W, M>(
+            request, format, alloc, captures, copies, reader, writer, messages,
+        )
+    }
+}
+
+/// Counts the texts of columns in place of writing rows, and writes the counts.
+fn count_rows<
+    'a,
+    J: Journal,
+    G: Grouping,
+    C: Captures,
+    K: Copies,
+    R: Source,
+    W: Sink,
+    M: LineSink,
+>(
+    request: Request<'a>,
+    format: StatisticsFormat,
+    alloc: Global,
+    captures: &C,
+    copies: &mut K,
+    reader: &mut R,
+    writer: &mut W,
+    messages: &mut M,
+) -> Outcome<'a> {
+    let mut counts = Statistics::<J, G>::new(alloc);
     let outcome = write_lines_or_copy(
         request,
         alloc,

@@ -98,6 +98,7 @@ pub(in crate::ether_capture) struct Asked<'a> {
     pub(in crate::ether_capture) limit: Option<usize>,
     pub(in crate::ether_capture) format: Option<Format>,
     pub(in crate::ether_capture) fields: Option<Columns>,
+    pub(in crate::ether_capture) by: Option<Columns>,
     /// The columns whose texts are counted, if that is asked for and there are 32 at most.
     pub(in crate::ether_capture) counted: Option<Columns>,
     pub(in crate::ether_capture) input: Option<&'a str>,
@@ -141,6 +142,9 @@ impl<'a> Asked<'a> {
         if self.has_header && self.fields.is_none() && !self.is_counted {
             return Some(DependentOption::Header);
         }
+        if self.by.is_some() && !self.is_counted {
+            return Some(DependentOption::By);
+        }
         if self.is_copy() {
             return None;
         }
@@ -173,9 +177,22 @@ impl<'a> Asked<'a> {
     /// Tests that there is an option of columns that does not go with the others.
     fn clashes_in_columns(&self) -> bool {
         if self.is_counted {
-            return self.has_header || self.counted.is_none() || self.is_brief();
+            return self.has_header
+                || self.counted.is_none()
+                || self.is_brief()
+                || self.clashes_with_by();
         }
         self.format.is_some() && self.fields.is_some()
+    }
+
+    /// Tests that columns are counted together, and also by themselves or as JSON.
+    fn clashes_with_by(&self) -> bool {
+        self.by.is_some() && (self.fields.is_some() || self.is_json())
+    }
+
+    /// Tests that objects of JSON are asked for.
+    fn is_json(&self) -> bool {
+        matches!(self.format, Some(Format::Json))
     }
 
     /// Tests that lines for the eye are asked for.
@@ -207,7 +224,7 @@ impl<'a> Asked<'a> {
     /// What is made of columns.
     fn heading(&self) -> Heading {
         if self.is_counted {
-            return statistics_of(&self.format, &self.counted);
+            return statistics_of(self.by.is_some(), &self.format, &self.counted);
         }
         if self.has_header {
             return line_of(&self.fields);
@@ -354,9 +371,18 @@ fn names_input(names: &[&str]) -> bool {
     false
 }
 
-/// Counts of the texts of columns, in a format.
-fn statistics_of(format: &Option<Format>, columns: &Option<Columns>) -> Heading {
+/// The columns of the first option that is there.
+pub(in crate::ether_capture) fn first_of(by: Option<Columns>, fields: Option<Columns>) -> Option<Columns> {
+    match by {
+        Some(columns) => Some(columns),
+        None => fields,
+    }
+}
+
+/// Counts of the texts of columns, of each or of all together, in a format.
+fn statistics_of(is_joint: bool, format: &Option<Format>, columns: &Option<Columns>) -> Heading {
     match (columns, format) {
+        (Some(columns), _) if is_joint => Heading::Statistics(StatisticsFormat::Joint, *columns),
         (Some(columns), Some(Format::Json)) => {
             Heading::Statistics(StatisticsFormat::Json, *columns)
         }

@@ -2,6 +2,7 @@
 
 use crate::ether_capture::count::Count;
 use crate::ether_capture::count_table::CountTable;
+use crate::ether_capture::grouping::Grouping;
 use crate::ether_capture::heap_text::HeapText;
 use crate::ether_capture::statistics_format::StatisticsFormat;
 use etherpeel::ether_format::split_at;
@@ -25,7 +26,7 @@ impl Rows {
     /// <details><summary>Contract</summary>
     ///
     /// ```text
-    /// ensures { Tabulates [] result }
+    /// ensures { (joint : Bool) → Tabulates joint [] result }
     /// ```
     ///
     /// </details>
@@ -45,18 +46,21 @@ impl Rows {
 
     /// Takes the next bytes. Returns [`NoMemory`] if memory for them is refused.
     ///
+    /// `G` says whether columns are counted together, and must always be the same.
+    ///
     /// <details><summary>Contract</summary>
     ///
     /// ```text
-    /// ensures { (text : List ℕ) → Tabulates text self.old → OnOk result (Tabulates (text ++ bytes.now) self.new) }
+    /// ensures { (text : List ℕ) → Tabulates G.is_joint text self.old
+    ///     → OnOk result (Tabulates G.is_joint (text ++ bytes.now) self.new) }
     /// ```
     ///
     /// </details>
-    pub fn take(&mut self, bytes: &[u8]) -> Result<(), NoMemory> {
+    pub fn take<G: Grouping>(&mut self, bytes: &[u8]) -> Result<(), NoMemory> {
         let mut rest = bytes;
         while let Some((before, after)) = split_at(b'\n', rest) {
             self.extend_line(before)?;
-            self.end_line()?;
+            self.end_line::<G>()?;
             rest = after;
         }
         self.extend_line(rest)?;
@@ -98,20 +102,20 @@ impl Rows {
     }
 
     /// Ends the line, which is the heading or a row.
-    fn end_line(&mut self) -> Result<(), NoMemory> {
-        self.take_line()?;
+    fn end_line<G: Grouping>(&mut self) -> Result<(), NoMemory> {
+        self.take_line::<G>()?;
         self.line.clear();
         Ok(())
     }
 
     /// Takes the line as the heading if there is none yet, or counts it.
-    fn take_line(&mut self) -> Result<(), NoMemory> {
+    fn take_line<G: Grouping>(&mut self) -> Result<(), NoMemory> {
         if !self.has_heading {
             self.heading.append(self.line.as_slice())?;
             self.has_heading = true;
             return Ok(());
         }
-        let bytes = count_row(
+        let bytes = count_line::<G>(
             self.heading.as_slice(),
             self.line.as_slice(),
             &mut self.key,
@@ -120,6 +124,60 @@ impl Rows {
         self.total = self.total.with(bytes);
         Ok(())
     }
+}
+
+/// Counts a packet for the texts of its row, of all columns together or of each. Returns how many bytes the packet had.
+#[inline(always)]
+fn count_line<G: Grouping>(
+    heading: &[u8],
+    row: &[u8],
+    key: &mut HeapText,
+    counts: &mut CountTable,
+) -> Result<usize, NoMemory> {
+    if G::is_joint() {
+        return count_together(heading, row, key, counts);
+    }
+    count_row(heading, row, key, counts)
+}
+
+/// Counts a packet for the texts of all columns of its row together, unless all are empty. Returns how many bytes the
+/// packet had.
+fn count_together(
+    heading: &[u8],
+    row: &[u8],
+    key: &mut HeapText,
+    counts: &mut CountTable,
+) -> Result<usize, NoMemory> {
+    let (_, columns) = first_field(heading);
+    let (len, fields) = first_field(row);
+    let bytes = decimal_value(len);
+    if let Some(texts) = fields {
+        if !are_empty(texts) {
+            count(or_nothing(columns), texts, bytes, key, counts)?;
+        }
+    }
+    Ok(bytes)
+}
+
+/// A text, or nothing if there is none.
+fn or_nothing(text: Option<&[u8]>) -> &[u8] {
+    match text {
+        Some(text) => text,
+        None => b"",
+    }
+}
+
+/// Tests that all fields are empty.
+fn are_empty(texts: &[u8]) -> bool {
+    let mut rest = Some(texts);
+    while let Some(left) = rest {
+        let (text, later) = first_field(left);
+        if !text.is_empty() {
+            return false;
+        }
+        rest = later;
+    }
+    true
 }
 
 /// Counts a packet for each text of the columns of its row. Returns how many bytes the packet had.

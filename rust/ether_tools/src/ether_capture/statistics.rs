@@ -1,20 +1,23 @@
 //! Counts the texts of rows.
 
+use crate::ether_capture::grouping::Grouping;
 use crate::ether_capture::journal::Journal;
 use crate::ether_capture::rows::Rows;
 use crate::ether_capture::statistics_format::StatisticsFormat;
 use etherpeel::ether_output::{OutputBuffer, OutputFault, Sink};
 use crate::ether_stream::RunFault;
 use crate::ether_capture::memory::Global;
+use std::marker::PhantomData;
 
-/// A sink of rows, whose texts are counted.
-pub struct Statistics<J: Journal> {
+/// A sink of rows, whose texts are counted: by themselves, or those of all columns together.
+pub struct Statistics<J: Journal, G: Grouping> {
     journal: J,
+    grouping: PhantomData<G>,
     rows: Rows,
     has_failed: bool,
 }
 
-impl<J: Journal> Statistics<J> {
+impl<J: Journal, G: Grouping> Statistics<J, G> {
     /// No row is counted yet.
     ///
     /// <details><summary>Contract</summary>
@@ -24,9 +27,10 @@ impl<J: Journal> Statistics<J> {
     /// ```
     ///
     /// </details>
-    pub fn new(alloc: Global) -> Statistics<J> {
+    pub fn new(alloc: Global) -> Self {
         Statistics {
             journal: J::start(),
+            grouping: PhantomData,
             rows: Rows::new(alloc),
             has_failed: false,
         }
@@ -52,8 +56,8 @@ impl<J: Journal> Statistics<J> {
     ///
     /// ```text
     /// ensures written { OnOk result (self.old.has_failed ≡ false
-    ///     → Shows J.is_known (J.Sink.contents self.old.journal) format (W.contents writer.old)
-    ///     (W.contents writer.new)) }
+    ///     → is_joint format ≡ G.is_joint → Shows J.is_known (J.Sink.contents self.old.journal) format
+    ///     (W.contents writer.old) (W.contents writer.new)) }
     /// ensures flushed { OnOk result (W.is_flushed writer.new) }
     /// ensures failed { IfErr result (λ fault. ((fault ≡ Memory) × (writer.new ≡ writer.old))
     ///     ⊎ ((fault ≡ Output) × W.can_fail)) }
@@ -74,14 +78,14 @@ impl<J: Journal> Statistics<J> {
     }
 }
 
-impl<J: Journal> Sink for Statistics<J> {
+impl<J: Journal, G: Grouping> Sink for Statistics<J, G> {
     fn put(&mut self, bytes: &[u8]) -> Result<(), OutputFault> {
         if self.has_failed {
             return Err(OutputFault);
         }
         self.has_failed = true;
         self.journal.put(bytes)?;
-        let Ok(()) = self.rows.take(bytes) else {
+        let Ok(()) = self.rows.take::<G>(bytes) else {
             return Err(OutputFault);
         };
         self.has_failed = false;

@@ -4,13 +4,23 @@ use crate::ether_capture::count::Count;
 use crate::ether_capture::rows::first_field;
 use etherpeel::ether_output::{OutputBuffer, Sink, write_decimal};
 
-/// How counts are written.
+/// What is counted, and how counts are written.
 #[derive(Clone, Copy, PartialEq, Eq, Debug)]
 pub enum StatisticsFormat {
     /// Lines of four fields, with a tab between two: column, text, packets and bytes.
     Text,
     /// Lines of JSON (RFC 8259), each an object with these four members.
     Json,
+    /// Packets are counted by the texts of all columns together. Lines have the names of the columns, their texts, the
+    /// packets and the bytes, with a tab between two.
+    Joint,
+}
+
+impl StatisticsFormat {
+    /// Tests that packets are counted by the texts of all columns together.
+    pub(in crate::ether_capture) fn is_joint(self) -> bool {
+        matches!(self, StatisticsFormat::Joint)
+    }
 }
 
 /// Writes the line of a key and its count.
@@ -21,14 +31,8 @@ pub(in crate::ether_capture) fn write_statistic<W: Sink>(
     out: &mut OutputBuffer<'_, W>,
 ) {
     match format {
-        StatisticsFormat::Text => {
-            out.append(key);
-            out.append(b"\t");
-            write_decimal(out, count.packets as u64);
-            out.append(b"\t");
-            write_decimal(out, count.bytes as u64);
-            out.append(b"\n");
-        }
+        StatisticsFormat::Text => write_fields(key, count, out),
+        StatisticsFormat::Joint => write_fields(key, count, out),
         StatisticsFormat::Json => {
             let (column, text) = parts_of(key);
             out.append(b"{\"column\":\"");
@@ -42,6 +46,16 @@ pub(in crate::ether_capture) fn write_statistic<W: Sink>(
             out.append(b"}\n");
         }
     }
+}
+
+/// Writes a key and its count as fields, with a tab between two.
+fn write_fields<W: Sink>(key: &[u8], count: Count, out: &mut OutputBuffer<'_, W>) {
+    out.append(key);
+    out.append(b"\t");
+    write_decimal(out, count.packets as u64);
+    out.append(b"\t");
+    write_decimal(out, count.bytes as u64);
+    out.append(b"\n");
 }
 
 /// The column and the text of a key.

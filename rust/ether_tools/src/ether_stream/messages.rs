@@ -52,6 +52,8 @@ pub(in crate::ether_stream) const OTHER_VERSION: &str = " editcap converts it.";
 
 // ---- options, as they are written
 
+pub(in crate::ether_stream) const BY: &str = "--by";
+
 pub(in crate::ether_stream) const COUNT: &str = "-c";
 
 pub(in crate::ether_stream) const CUT_TO_HEADERS: &str = "--cut-to-headers";
@@ -71,6 +73,8 @@ pub(in crate::ether_stream) const PUSH_VLAN: &str = "--push-vlan";
 pub(in crate::ether_stream) const SELECT: &str = "--select";
 
 pub(in crate::ether_stream) const SET_VLAN: &str = "--set-vlan";
+
+pub(in crate::ether_stream) const STATS: &str = "--stats";
 
 pub(in crate::ether_stream) const STATUS_ON_FAULT: &str = "--status-on-fault";
 

@@ -1,10 +1,10 @@
 //! What is wrong with the words of a request.
 
 use crate::ether_stream::messages::{
-    CLASH, COLUMNS, COPIES, COUNT, CUT_TO_HEADERS, EDITS, FIELDS, FORMAT, FORMATS, HEADER, HEADERS,
-    INPUT_TWICE, KEEP_OR_DROP, LIMIT, NO_COLUMN, NO_OPTION, NO_VALUE, PACKETS, POP_VLAN, PUSH_VLAN,
-    PUSHED_TAG, SELECT, SET_VLAN, STATUS_ON_FAULT, SURPLUS, TWICE, TWO_IDENTIFIERS, UNDECIDED,
-    YES_OR_NO,
+    BY, CLASH, COLUMNS, COPIES, COUNT, CUT_TO_HEADERS, EDITS, FIELDS, FORMAT, FORMATS, HEADER,
+    HEADERS, INPUT_TWICE, KEEP_OR_DROP, LIMIT, NO_COLUMN, NO_OPTION, NO_VALUE, PACKETS, POP_VLAN,
+    PUSH_VLAN, PUSHED_TAG, SELECT, SET_VLAN, STATS, STATUS_ON_FAULT, SURPLUS, TWICE,
+    TWO_IDENTIFIERS, UNDECIDED, YES_OR_NO,
 };
 use std::fmt;
 
@@ -27,6 +27,8 @@ pub enum ValueOption {
     Format,
     /// `--fields`.
     Fields,
+    /// `--by`.
+    By,
 }
 
 impl ValueOption {
@@ -41,6 +43,7 @@ impl ValueOption {
             ValueOption::StatusOnFault => STATUS_ON_FAULT,
             ValueOption::Format => FORMAT,
             ValueOption::Fields => FIELDS,
+            ValueOption::By => BY,
         }
     }
 
@@ -54,7 +57,7 @@ impl ValueOption {
             ValueOption::Undecided => KEEP_OR_DROP,
             ValueOption::StatusOnFault => YES_OR_NO,
             ValueOption::Format => FORMATS,
-            ValueOption::Fields => COLUMNS,
+            ValueOption::Fields | ValueOption::By => COLUMNS,
         }
     }
 }
@@ -66,6 +69,8 @@ pub enum DependentOption {
     Undecided,
     /// `--header`.
     Header,
+    /// `--by`.
+    By,
     /// `--cut-to-headers`.
     CutToHeaders,
     /// `--pop-vlan`.
@@ -82,6 +87,7 @@ impl DependentOption {
         match self {
             DependentOption::Undecided => UNDECIDED,
             DependentOption::Header => HEADER,
+            DependentOption::By => BY,
             DependentOption::CutToHeaders => CUT_TO_HEADERS,
             DependentOption::PopVlan => POP_VLAN,
             DependentOption::PushVlan => PUSH_VLAN,
@@ -94,6 +100,7 @@ impl DependentOption {
         match self {
             DependentOption::Undecided => SELECT,
             DependentOption::Header => FIELDS,
+            DependentOption::By => STATS,
             DependentOption::CutToHeaders
             | DependentOption::PopVlan
             | DependentOption::PushVlan
@@ -121,8 +128,8 @@ pub enum Usage<'a> {
     InputTwice,
     /// There are several edits.
     Edits,
-    /// No column has this name.
-    NoColumn(&'a str),
+    /// No column has this name, which is in the value of an option.
+    NoColumn(ValueOption, &'a str),
     /// The value of an option means nothing.
     Value(ValueOption, &'a str),
 }
@@ -142,7 +149,10 @@ impl fmt::Display for Usage<'_> {
             Usage::Surplus(name) => write!(f, "{name}: {SURPLUS}"),
             Usage::InputTwice => write!(f, "{INPUT_TWICE}"),
             Usage::Edits => write!(f, "{EDITS}"),
-            Usage::NoColumn(name) => write!(f, "{FIELDS}: {NO_COLUMN} '{name}'"),
+            Usage::NoColumn(option, name) => {
+                let option = option.name();
+                write!(f, "{option}: {NO_COLUMN} '{name}'")
+            }
             Usage::Value(option, text) => {
                 let name = option.name();
                 let expected = option.expected();

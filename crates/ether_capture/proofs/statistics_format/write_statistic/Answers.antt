@@ -2,21 +2,19 @@ use Rattle.ether_output.proofs.OutputBufferLemmas.{Takes-then, Takes-same}
 use Rattle.ether_capture.proofs.statistics_format.write_statistic.Goals as goal
 
 pub returns-in-Text : goal.returns-in-Text
-returns-in-Text g c =
-    rw c.in-Text.is
-    (Takes-then c.append.ensures
-    (Takes-then c.append-in-Text.ensures
-    (Takes-then c.write_decimal.ensures
-    (Takes-then c.append-in-Text-2.ensures (Takes-then c.write_decimal-in-Text.ensures c.append-in-Text-3.ensures)))))
+returns-in-Text g c = rw c.in-Text.is c.write_fields.ensures
+
+pub returns-in-Joint : goal.returns-in-Joint
+returns-in-Joint g c = rw c.in-Joint.is c.write_fields-in-Joint.ensures
 
 pub returns-in-Json : goal.returns-in-Json
 returns-in-Json g c =
     rw c.in-Json.is
-    (Takes-then c.append-in-Json.ensures
-    (Takes-then (Takes-same c.parts_of.ensures.column c.append-in-Json-2.ensures)
-    (Takes-then c.append-in-Json-3.ensures
-    (Takes-then (Takes-same c.parts_of.ensures.text c.append-in-Json-4.ensures)
-    (Takes-then c.append-in-Json-5.ensures
-    (Takes-then c.write_decimal-in-Json.ensures
-    (Takes-then c.append-in-Json-6.ensures (Takes-then c.write_decimal-in-Json-2.ensures
-    c.append-in-Json-7.ensures))))))))
+    (Takes-then c.append.ensures
+    (Takes-then (Takes-same c.parts_of.ensures.column c.append-in-Json.ensures)
+    (Takes-then c.append-in-Json-2.ensures
+    (Takes-then (Takes-same c.parts_of.ensures.text c.append-in-Json-3.ensures)
+    (Takes-then c.append-in-Json-4.ensures
+    (Takes-then c.write_decimal.ensures
+    (Takes-then c.append-in-Json-5.ensures (Takes-then c.write_decimal-in-Json.ensures
+    c.append-in-Json-6.ensures))))))))

@@ -1,5 +1,5 @@
 use Rattle.std.proofs.Common.{rules}
-use Rattle.ether_capture.specs.Options.{wrong_count, wrong_edit, wrong_fields, wrong_format, wrong_limit, wrong_status_on_fault, wrong_undecided}
+use Rattle.ether_capture.specs.Options.{wrong_by, wrong_count, wrong_edit, wrong_fields, wrong_format, wrong_limit, wrong_status_on_fault, wrong_undecided}
 use Rattle.ether_capture.proofs.OptionsLemmas.{value_refused}
 use Rattle.ether_capture.proofs.request.Asked.of.Goals as goal
 
@@ -34,15 +34,21 @@ returns-in_err-fields-clause-err c =
 
 pub returns-in_err-undecided-clause-err : goal.returns-in_err-undecided-clause-err
 returns-in_err-undecided-clause-err c =
-    let is = c.text_of-5.ensures in
+    let is = c.text_of-6.ensures in
     value_refused _ c.in_err-undecided.field-0.0 c.from_residual-in_err-undecided.result
     (wrong_undecided _ (rw is at c.in_err-undecided.ensures.err) (rw is at c.in_err-undecided.ensures.usage))
     (search rules)
 
 pub returns-in_err-status_on_fault-clause-err : goal.returns-in_err-status_on_fault-clause-err
 returns-in_err-status_on_fault-clause-err c =
-    let is = c.text_of-6.ensures in
+    let is = c.text_of-7.ensures in
     value_refused _ c.in_err-status_on_fault.field-0.0 c.from_residual-in_err-status_on_fault.result
     (wrong_status_on_fault _ (rw is at c.in_err-status_on_fault.ensures.err)
     (rw is at c.in_err-status_on_fault.ensures.usage))
     (search rules)
+
+pub returns-in_err-by-clause-err : goal.returns-in_err-by-clause-err
+returns-in_err-by-clause-err c =
+    let is = c.text_of-5.ensures in
+    value_refused _ c.in_err-by.field-0.0 c.from_residual-in_err-by.result
+    (wrong_by _ (rw is at c.in_err-by.ensures.err) (rw is at c.in_err-by.ensures.usage)) (search rules)

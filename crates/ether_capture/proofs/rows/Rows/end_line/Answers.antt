@@ -4,6 +4,6 @@ use Rattle.ether_capture.proofs.RowsLemmas.{line_ends}
 use Rattle.ether_capture.proofs.rows.Rows.end_line.Goals as goal
 
 pub returns : goal.returns
-returns c text so_far =
-    line_ends text c.args.self.now c.take_line.new.self _ so_far
+returns g c text so_far =
+    line_ends g.G.Grouping.is_joint text c.args.self.now c.take_line.new.self _ so_far
     (c.in_ok-take_line.ensures (lines_of text) so_far.0) refl refl refl refl c.clear.ensures

@@ -3,5 +3,5 @@ use Rattle.ether_capture.proofs.RowsLemmas.{line_goes_on}
 use Rattle.ether_capture.proofs.rows.Rows.extend_line.Goals as goal
 
 pub returns : goal.returns
-returns c text so_far none =
-    line_goes_on text c.args.bytes.now c.args.self.now _ none so_far refl refl refl refl c.in_ok-append.ensures
+returns c joint text so_far none =
+    line_goes_on joint text c.args.bytes.now c.args.self.now _ none so_far refl refl refl refl c.in_ok-append.ensures

@@ -3,9 +3,9 @@ use Rattle.ether_capture.specs.Tabulating.{Tabulates}
 use Rattle.ether_capture.proofs.rows.Rows.take.Given as goal
 
 abbrev pub invariant-loop-before : goal.invariant-loop-before
-invariant-loop-before l =
-    (text : List ℕ) → Tabulates text l.fn.self
-    → (done : List ℕ) × (l.bytes ≡ done ++ l.rest) × Tabulates (text ++ done) l.self
+invariant-loop-before g l =
+    (text : List ℕ) → Tabulates g.G.Grouping.is_joint text l.fn.self
+    → (done : List ℕ) × (l.bytes ≡ done ++ l.rest) × Tabulates g.G.Grouping.is_joint (text ++ done) l.self
 
 abbrev pub decreases-loop-before : goal.decreases-loop-before
-decreases-loop-before l = length l.rest
+decreases-loop-before g l = length l.rest
