@@ -19,13 +19,17 @@ _ether_capture() {
 
     case "${cmd}" in
         ether_capture)
-            opts="-r -c -w -h -V --progress --plain --header --stats --write --cut-to-headers --pop-vlan --select --undecided --limit --format --fields --by --status-on-fault --push-vlan --set-vlan --help --version [file]..."
+            opts="-r -c -w -h -V --progress --plain --header --stats --write --cut-to-headers --pop-vlan --jobs --select --undecided --limit --format --fields --by --status-on-fault --push-vlan --set-vlan --help --version [file]..."
             if [[ ${cur} == -* || ${COMP_CWORD} -eq 1 ]] ; then
                 COMPREPLY=( $(compgen -W "${opts}" -- "${cur}") )
                 return 0
             fi
             case "${prev}" in
                 -r)
+                    COMPREPLY=($(compgen -f "${cur}"))
+                    return 0
+                    ;;
+                --jobs)
                     COMPREPLY=($(compgen -f "${cur}"))
                     return 0
                     ;;

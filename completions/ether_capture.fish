@@ -1,4 +1,5 @@
 complete -c ether_capture -s r -d 'read FILE, as if it was named alone' -r -F
+complete -c ether_capture -l jobs -d 'make lines in N threads, where the program has threads; the output is the same' -r -f
 complete -c ether_capture -l select -d 'only packets that match EXPR, as \'vlan 5 or arp\'' -r -f
 complete -c ether_capture -l undecided -d 'with --select, keep or drop packets that were cut too short to tell, in place of taking them as they are' -r -f -a "{keep	,drop	}"
 complete -c ether_capture -s c -d 'end with the N-th of these packets, of all files together' -r -f

@@ -119,6 +119,7 @@ pub record AskedValue : Type 0 where
   pub undecided : Option Undecided
   pub status_on_fault : Option Bool
   pub count : Option ℕ
+  pub jobs : Option ℕ
   pub limit : Option ℕ
   pub format : Option Format
   pub fields : Option Columns
@@ -166,6 +167,7 @@ pub record Asks (rows : List Row) (a : AskedValue) : Type 0 where
   pub undecided : IsIfAny MeansUndecided (first_of (codes "undecided") rows) a.undecided
   pub status_on_fault : IsIfAny MeansAnswer (first_of (codes "status-on-fault") rows) a.status_on_fault
   pub count : IsIfAny IsCount (first_of (codes "count") rows) a.count
+  pub jobs : IsIfAny IsCount (first_of (codes "jobs") rows) a.jobs
   pub limit : IsIfAny IsLimit (first_of (codes "limit") rows) a.limit
   pub format : IsFormat (first_of (codes "format") rows) a.format
   pub fields : IsIfAny AreFields (first_of (codes "fields") rows) a.fields
@@ -404,6 +406,8 @@ pub data MeansNothing (rows : List Row) : Usage → Type 0 where
       → ((b : Option Bool) → ¬ (IsIfAny MeansAnswer (first_of (codes "status-on-fault") rows) b))
       → IsWrongValue value_options.StatusOnFault (first_of (codes "status-on-fault") rows) usage
       → MeansNothing rows usage
+  wrong_jobs : (usage : Usage) → ((n : Option ℕ) → ¬ (IsIfAny IsCount (first_of (codes "jobs") rows) n))
+      → IsWrongValue value_options.Jobs (first_of (codes "jobs") rows) usage → MeansNothing rows usage
 
 -- .. or options and names do not fit together
 pub record NamesFault (words : List Text) (usage : Usage) : Type 0 where
@@ -447,6 +451,7 @@ asked_view asked = record {
   undecided = asked.undecided;
   status_on_fault = asked.status_on_fault;
   count = option_map non_zero_usize_get asked.count;
+  jobs = option_map non_zero_usize_get asked.jobs;
   limit = asked.limit;
   format = asked.format;
   fields = asked.fields;

@@ -73,7 +73,7 @@ fn copy_to<K: Copies, R: Source>(
         result }
 {
     let mut part = copies.begin(output, input)?;
-    let end = run_input(task, alloc, reader, &mut part).0;
+    let end = run_input(task, None, alloc, reader, &mut part).0;
     match end {
         Ok(verdict) => {
             copies.finish(output, part)?;

@@ -121,7 +121,7 @@ impl<'a> Asked<'a> {
         ensures err { IfErr result (RefusesRows (rows_of (found_of matches.now))) }
     {
         let edit = edit_of(matches)?;
-        let count = count_of(text_of(matches, "count"))?;
+        let count = count_of(ValueOption::Count, text_of(matches, "count"))?;
         let limit = limit_of(text_of(matches, "limit"))?;
         let format = format_of(text_of(matches, "format"))?;
         let fields = fields_of(ValueOption::Fields, text_of(matches, "fields"))?;
@@ -129,6 +129,7 @@ impl<'a> Asked<'a> {
         let is_counted = is_set(matches, "stats");
         let undecided = undecided_of(text_of(matches, "undecided"))?;
         let status_on_fault = status_on_fault_of(text_of(matches, "status-on-fault"))?;
+        let jobs = count_of(ValueOption::Jobs, text_of(matches, "jobs"))?;
         let files = names_of(matches, alloc)?;
         Ok(Asked {
             is_plain: is_set(matches, "plain"),
@@ -141,6 +142,7 @@ impl<'a> Asked<'a> {
             undecided,
             status_on_fault,
             count,
+            jobs,
             limit,
             format,
             fields,

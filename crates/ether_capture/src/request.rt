@@ -75,6 +75,8 @@ pub struct Job<'a> {
     pub heading: Heading,
     /// Whether to show how far it is read.
     pub is_shown: bool,
+    /// How many threads are to make its lines.
+    pub jobs: Option<NonZeroUsize>,
 }
 
 /// Which lines of several captures.
@@ -92,6 +94,8 @@ pub struct Listing<'a> {
     pub heading: Heading,
     /// Whether to show how far they are read.
     pub is_shown: bool,
+    /// How many threads are to make their lines.
+    pub jobs: Option<NonZeroUsize>,
 }
 
 /// What options ask for.
@@ -107,6 +111,7 @@ pub(crate) struct Asked<'a> {
     pub(crate) undecided: Option<Undecided>,
     pub(crate) status_on_fault: Option<bool>,
     pub(crate) count: Option<NonZeroUsize>,
+    pub(crate) jobs: Option<NonZeroUsize>,
     pub(crate) limit: Option<usize>,
     pub(crate) format: Option<Format>,
     pub(crate) fields: Option<Columns>,
@@ -289,6 +294,7 @@ impl<'a> Asked<'a> {
                 heading: self.heading(),
                 files: self.files,
                 is_shown: self.is_shown,
+                jobs: self.jobs,
             })),
             Ok(filter) => {
                 let form = self.form();
@@ -303,6 +309,7 @@ impl<'a> Asked<'a> {
                     output: self.output(),
                     heading: self.heading(),
                     is_shown: self.is_shown,
+                    jobs: self.jobs,
                 }))
             }
             Err(error) => Err(RequestError::Filter(error)),

@@ -13,10 +13,13 @@ use ether_stream::run::run_counted;
 use ether_stream::{Buffers, NoMemory, PacketCounts, RunFault, Task};
 use ether_text::{Source, Verdict};
 use std::alloc::Global;
+use std::num::NonZeroUsize;
 
-/// Like [`run_counted`], with memory of the heap that is allocated first.
+/// Like [`run_counted`], with memory of the heap that is allocated first. `jobs` threads may make the lines: here it is
+/// one, since the runtime has no others.
 pub fn run_input<R: Source, W: Sink>(
     task: &Task,
+    _jobs: Option<NonZeroUsize>,
     alloc: Global,
     reader: &mut R,
     writer: &mut W,

@@ -144,6 +144,7 @@ fn read_files<C: Captures, R: Source, W: Sink, M: LineSink>(
     ensures told { Settles M.Sink.is_flushed messages.old messages.new ⊎ M.Sink.can_fail }
 {
     let options = listing.options;
+    let jobs = listing.jobs;
     let mut files = listing.files.into_iter();
     let mut task = Task {
         selection: listing.selection,
@@ -157,7 +158,7 @@ fn read_files<C: Captures, R: Source, W: Sink, M: LineSink>(
         }
         task.count = tally.count();
         task.form = Form::Lines(options.after(tally.packets));
-        let (end, counts) = read_file(&task, name, alloc, captures, reader, writer, messages)?;
+        let (end, counts) = read_file(&task, jobs, name, alloc, captures, reader, writer, messages)?;
         tally = tally.with(counts, &end);
     }
     Ok(tally)
@@ -167,6 +168,7 @@ fn read_files<C: Captures, R: Source, W: Sink, M: LineSink>(
 /// ended, and how many packets were read.
 fn read_file<C: Captures, R: Source, W: Sink, M: LineSink>(
     task: &Task,
+    jobs: Option<NonZeroUsize>,
     name: &str,
     alloc: Global,
     captures: &C,
@@ -183,7 +185,7 @@ fn read_file<C: Captures, R: Source, W: Sink, M: LineSink>(
     ensures kept { IfSome (named name.now) (λ _. R.remaining reader.new ≡ R.remaining reader.old) }
     ensures told { Settles M.Sink.is_flushed messages.old messages.new ⊎ M.Sink.can_fail }
 {
-    let (end, counts) = end_of_file(task, name, alloc, captures, reader, writer);
+    let (end, counts) = end_of_file(task, jobs, name, alloc, captures, reader, writer);
     if is_output_fault(&end) {
         return Err(OutputFault);
     }
@@ -224,6 +226,7 @@ fn line_of_capture<'a>(name: &'a str, end: &'a FileEnd) -> Option<LastLine<'a>>
 /// Writes what is made of one capture, and returns how it ended, and how many packets were read.
 fn end_of_file<C: Captures, R: Source, W: Sink>(
     task: &Task,
+    jobs: Option<NonZeroUsize>,
     name: &str,
     alloc: Global,
     captures: &C,
@@ -238,12 +241,12 @@ fn end_of_file<C: Captures, R: Source, W: Sink>(
         (AreCounted (task_view task.now) packets result.1) }
 {
     let Some(name) = named(name) else {
-        let (end, counts) = run_input(task, alloc, reader, writer);
+        let (end, counts) = run_input(task, jobs, alloc, reader, writer);
         return (FileEnd::Read(end), counts);
     };
     match captures.open_named(name) {
         Ok(mut input) => {
-            let (end, counts) = run_input(task, alloc, &mut input, writer);
+            let (end, counts) = run_input(task, jobs, alloc, &mut input, writer);
             (FileEnd::Read(end), counts)
         }
         Err(fault) => (FileEnd::NotOpened(fault), PacketCounts::none(task)),

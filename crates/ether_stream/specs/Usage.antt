@@ -1,6 +1,6 @@
 -- What is wrong with the words of a request.
 use Rattle.std.specs.Prelude.{◌≡◌, ℕ, List, ◌++◌, codes, Option, Some}
-use Rattle.ether_stream.specs.declared.messages.TheConstants.{BY, CLASH, COLUMNS, COPIES, COUNT, CUT_TO_HEADERS, EDITS, FIELDS, FORMAT, FORMATS, HEADER, HEADERS, INPUT_TWICE, KEEP_OR_DROP, LIMIT, NO_COLUMN, NO_OPTION, NO_VALUE, PACKETS, POP_VLAN, PUSH_VLAN, PUSHED_TAG, SELECT, SET_VLAN, STATS, STATUS_ON_FAULT, SURPLUS, TWICE, TWO_IDENTIFIERS, UNDECIDED, YES_OR_NO}
+use Rattle.ether_stream.specs.declared.messages.TheConstants.{BY, CLASH, COLUMNS, COPIES, COUNT, CUT_TO_HEADERS, EDITS, FIELDS, FORMAT, FORMATS, HEADER, HEADERS, INPUT_TWICE, JOBS, KEEP_OR_DROP, LIMIT, NO_COLUMN, NO_OPTION, NO_VALUE, PACKETS, POP_VLAN, PUSH_VLAN, PUSHED_TAG, SELECT, SET_VLAN, STATS, STATUS_ON_FAULT, SURPLUS, TWICE, TWO_IDENTIFIERS, UNDECIDED, YES_OR_NO}
 use Rattle.ether_stream.specs.declared.usage.DependentOption.{DependentOption}
 use Rattle.ether_stream.specs.declared.usage.DependentOption.TheVariants as dependent
 use Rattle.ether_stream.specs.declared.usage.Usage.{Usage}
@@ -19,6 +19,7 @@ option_text value_options.StatusOnFault = STATUS_ON_FAULT.now
 option_text value_options.Format = FORMAT.now
 option_text value_options.Fields = FIELDS.now
 option_text value_options.By = BY.now
+option_text value_options.Jobs = JOBS.now
 
 -- the values that it takes
 abbrev pub expected_text : ValueOption → List ℕ
@@ -31,6 +32,7 @@ expected_text value_options.StatusOnFault = YES_OR_NO.now
 expected_text value_options.Format = FORMATS.now
 expected_text value_options.Fields = COLUMNS.now
 expected_text value_options.By = COLUMNS.now
+expected_text value_options.Jobs = PACKETS.now
 
 -- an option that needs another one
 abbrev pub dependent_text : DependentOption → List ℕ

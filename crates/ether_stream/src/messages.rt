@@ -64,6 +64,8 @@ pub(crate) const FORMAT: &str = "--format";
 
 pub(crate) const HEADER: &str = "--header";
 
+pub(crate) const JOBS: &str = "--jobs";
+
 pub(crate) const LIMIT: &str = "--limit";
 
 pub(crate) const POP_VLAN: &str = "--pop-vlan";

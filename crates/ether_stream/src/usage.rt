@@ -4,8 +4,8 @@ ghost use Rattle.ether_stream.specs.Usage.{dependent_text, expected_text, needed
 
 use crate::messages::{
     BY, CLASH, COLUMNS, COPIES, COUNT, CUT_TO_HEADERS, EDITS, FIELDS, FORMAT, FORMATS, HEADER,
-    HEADERS, INPUT_TWICE, KEEP_OR_DROP, LIMIT, NO_COLUMN, NO_OPTION, NO_VALUE, PACKETS, POP_VLAN,
-    PUSH_VLAN, PUSHED_TAG, SELECT, SET_VLAN, STATS, STATUS_ON_FAULT, SURPLUS, TWICE,
+    HEADERS, INPUT_TWICE, JOBS, KEEP_OR_DROP, LIMIT, NO_COLUMN, NO_OPTION, NO_VALUE, PACKETS,
+    POP_VLAN, PUSH_VLAN, PUSHED_TAG, SELECT, SET_VLAN, STATS, STATUS_ON_FAULT, SURPLUS, TWICE,
     TWO_IDENTIFIERS, UNDECIDED, YES_OR_NO,
 };
 use std::fmt;
@@ -31,6 +31,8 @@ pub enum ValueOption {
     Fields,
     /// `--by`.
     By,
+    /// `--jobs`.
+    Jobs,
 }
 
 impl ValueOption {
@@ -48,6 +50,7 @@ impl ValueOption {
             ValueOption::Format => FORMAT,
             ValueOption::Fields => FIELDS,
             ValueOption::By => BY,
+            ValueOption::Jobs => JOBS,
         }
     }
 
@@ -58,7 +61,7 @@ impl ValueOption {
         match self {
             ValueOption::PushVlan => PUSHED_TAG,
             ValueOption::SetVlan => TWO_IDENTIFIERS,
-            ValueOption::Count => PACKETS,
+            ValueOption::Count | ValueOption::Jobs => PACKETS,
             ValueOption::Limit => HEADERS,
             ValueOption::Undecided => KEEP_OR_DROP,
             ValueOption::StatusOnFault => YES_OR_NO,

@@ -2,6 +2,8 @@
 //!
 //! The first of these signals asks the run to end: so the input is read on for at most a second, since its writer may
 //! have got the signal, too, and end it. Later signals have their default effect.
+use crate::jobs::bell;
+use arrayvec::ArrayVec;
 use nix::errno::Errno;
 use nix::poll::{PollFd, PollFlags, poll};
 use signal_hook::consts::{SIGINT, SIGTERM};
@@ -147,28 +149,35 @@ impl Ending {
         Some(patience.min(deadline.saturating_duration_since(now)))
     }
 
-    /// Tests that an input may be read, and waits until that has something to read, if it is not a regular file.
-    fn lets_read(&self, input: RawFd, kind: Kind) -> bool {
+    /// Tests that an input may be read, and waits until that has something to read, if it is not a regular file, or until
+    /// the bell rings. The error says why it may not.
+    fn lets_read(&self, input: RawFd, kind: Kind) -> io::Result<()> {
         let patience = if kind == Kind::Stream { PATIENCE } else { Duration::ZERO };
         self.count_read(false);
         loop {
             let left = self.left(patience);
             if left.is_some_and(|left| left.is_zero()) {
                 self.has_cut.set(true);
-                return false;
+                return Err(Error::other("a signal has ended the run"));
             }
-            let Some(woken) = self.woken.as_ref().filter(|_| kind != Kind::Regular) else {
-                return true;
-            };
-            let mut ends = [readable(input), readable(woken.as_raw_fd())];
-            let polled = if left.is_some() { &mut ends[..1] } else { &mut ends[..] };
+            let woken = self.woken.as_ref().filter(|_| left.is_none()).map(|woken| woken.as_raw_fd());
+            let others = [bell::heard(), woken];
+            if kind == Kind::Regular || self.woken.is_none() && bell::heard().is_none() {
+                return Ok(());
+            }
+            let ends = [Some(input)].into_iter().chain(others).flatten().map(readable);
+            let mut ends = ends.collect::<ArrayVec<PollFd, 3>>();
             let short = Some(SHORT_WAIT).filter(|_| self.reads.get() < SHORT_RUN);
-            match wait(polled, left.or(short)) {
+            match wait(&mut ends, left.or(short)) {
                 Ok(0) if left.is_none() => self.count_read(true),
-                Ok(_) if polled[0].any() == Some(false) => {}
-                Ok(_) => return true,
+                Ok(_) if ends[0].any() == Some(false) => {
+                    if bell::heard().is_some() && ends[1].any() == Some(true) {
+                        return Err(bell::interruption());
+                    }
+                }
+                Ok(_) => return Ok(()),
                 Err(Errno::EINTR) => {}
-                Err(_) => return true,
+                Err(_) => return Ok(()),
             }
         }
     }
@@ -239,9 +248,7 @@ impl Read for Ended<'_> {
             return Ok(0);
         }
         loop {
-            if !self.ending.lets_read(self.file.as_raw_fd(), self.kind) {
-                return Err(Error::other("a signal has ended the run"));
-            }
+            self.ending.lets_read(self.file.as_raw_fd(), self.kind)?;
             match self.file.read(buf) {
                 Err(error) if error.kind() == ErrorKind::Interrupted => {}
                 answer => return answer,

@@ -1,5 +1,5 @@
 //! What the programs are made of: by a script [`ether_text`], [`ether_stream`] and most of [`ether_capture`]; by hand
-//! [`ending`], [`gzip`], [`reasons`] and [`streams`], and what the head of a file says.
+//! [`ending`], [`gzip`], [`jobs`], [`reasons`] and [`streams`], and what the head of a file says.
 pub mod ending;
 #[rustfmt::skip]
 pub mod ether_capture;
@@ -8,5 +8,6 @@ pub mod ether_stream;
 #[rustfmt::skip]
 pub mod ether_text;
 pub mod gzip;
+pub mod jobs;
 pub mod reasons;
 pub mod streams;

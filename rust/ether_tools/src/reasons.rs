@@ -1,5 +1,6 @@
 //! Reasons that are added to lines on standard error. Written by hand, not proved.
 use crate::ending::Ending;
+use crate::jobs::bell::is_interruption;
 use std::cell::RefCell;
 use std::io::{self, Error, Read, Write};
 use std::mem;
@@ -33,7 +34,8 @@ impl<R: Read> Read for WithReason<'_, R> {
     fn read(&mut self, buf: &mut [u8]) -> io::Result<usize> {
         self.stream.read(buf).map_err(|error| {
             let kind = error.kind();
-            *self.reasons.last.borrow_mut() = Some(error).filter(|error| error.raw_os_error().is_none());
+            let is_reason = error.raw_os_error().is_none() && !is_interruption(&error);
+            *self.reasons.last.borrow_mut() = Some(error).filter(|_| is_reason);
             kind.into()
         })
     }

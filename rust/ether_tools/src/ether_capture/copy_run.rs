@@ -77,7 +77,7 @@ fn copy_to<K: Copies, R: Source>(
     reader: &mut R,
 ) -> Result<Result<Verdict, RunFault>, WriteFault> {
     let mut part = copies.begin(output, input)?;
-    let end = run_input(task, alloc, reader, &mut part).0;
+    let end = run_input(task, None, alloc, reader, &mut part).0;
     match end {
         Ok(verdict) => {
             copies.finish(output, part)?;

@@ -56,7 +56,7 @@ pub(in crate::ether_capture) fn all_options() -> &'static [OptionRow<&'static st
 }
 
 /// The table of options, in the order of the help.
-pub static OPTIONS: [OptionRow<&str>; 21] = [
+pub static OPTIONS: [OptionRow<&str>; 22] = [
     OptionRow {
         name: "read",
         spelling: Spelling::Letter('r'),
@@ -70,6 +70,13 @@ pub static OPTIONS: [OptionRow<&str>; 21] = [
         value: None,
         group: "",
         help: "show on standard error how many bytes are read, and how fast",
+    },
+    OptionRow {
+        name: "jobs",
+        spelling: Spelling::Name,
+        value: Some("N"),
+        group: "",
+        help: "make lines in N threads, where the program has threads; the output is the same",
     },
     OptionRow {
         name: "select",

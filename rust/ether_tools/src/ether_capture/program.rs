@@ -16,6 +16,7 @@ use etherpeel::ether_output::{OutputBuffer, OutputFault, Sink};
 use crate::ether_stream::{LineSink, Outcome, RunFault, Task, is_message, last_line, program_status};
 use crate::ether_text::Source;
 use crate::ether_capture::memory::Global;
+use std::num::NonZeroUsize;
 use std::{env, io};
 
 /// Writes the lines of a capture, or a copy of it, as the arguments say, prints the last line if there is one, and
@@ -221,8 +222,8 @@ fn run_job<'a, C: Captures, K: Copies, R: Source, W: Sink>(
         captures.show();
     }
     match (job.input, job.output) {
-        (None, None) => Outcome::Run(run_input(&job.task, alloc, reader, writer).0),
-        (Some(name), None) => run_file(&job.task, name, alloc, captures, writer),
+        (None, None) => Outcome::Run(run_input(&job.task, job.jobs, alloc, reader, writer).0),
+        (Some(name), None) => run_file(&job.task, job.jobs, name, alloc, captures, writer),
         (None, Some(output)) => copy_input(&job.task, output, alloc, copies, reader),
         (Some(name), Some(output)) => copy_file(&job.task, name, output, alloc, captures, copies),
     }
@@ -231,6 +232,7 @@ fn run_job<'a, C: Captures, K: Copies, R: Source, W: Sink>(
 /// Writes what is made of the capture of a name.
 fn run_file<'a, C: Captures, W: Sink>(
     task: &Task,
+    jobs: Option<NonZeroUsize>,
     name: &'a str,
     alloc: Global,
     captures: &C,
@@ -239,7 +241,7 @@ fn run_file<'a, C: Captures, W: Sink>(
     match captures.open_named(name) {
         Ok(mut input) => Outcome::File {
             name,
-            end: run_input(task, alloc, &mut input, writer).0,
+            end: run_input(task, jobs, alloc, &mut input, writer).0,
         },
         Err(fault) => Outcome::NotOpened { name, fault },
     }

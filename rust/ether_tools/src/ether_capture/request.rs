@@ -64,6 +64,8 @@ pub struct Job<'a> {
     pub heading: Heading,
     /// Whether to show how far it is read.
     pub is_shown: bool,
+    /// How many threads are to make its lines.
+    pub jobs: Option<NonZeroUsize>,
 }
 
 /// Which lines of several captures.
@@ -81,6 +83,8 @@ pub struct Listing<'a> {
     pub heading: Heading,
     /// Whether to show how far they are read.
     pub is_shown: bool,
+    /// How many threads are to make their lines.
+    pub jobs: Option<NonZeroUsize>,
 }
 
 /// What options ask for.
@@ -95,6 +99,7 @@ pub(in crate::ether_capture) struct Asked<'a> {
     pub(in crate::ether_capture) undecided: Option<Undecided>,
     pub(in crate::ether_capture) status_on_fault: Option<bool>,
     pub(in crate::ether_capture) count: Option<NonZeroUsize>,
+    pub(in crate::ether_capture) jobs: Option<NonZeroUsize>,
     pub(in crate::ether_capture) limit: Option<usize>,
     pub(in crate::ether_capture) format: Option<Format>,
     pub(in crate::ether_capture) fields: Option<Columns>,
@@ -245,6 +250,7 @@ impl<'a> Asked<'a> {
                 heading: self.heading(),
                 files: self.files,
                 is_shown: self.is_shown,
+                jobs: self.jobs,
             })),
             Ok(filter) => {
                 let form = self.form();
@@ -259,6 +265,7 @@ impl<'a> Asked<'a> {
                     output: self.output(),
                     heading: self.heading(),
                     is_shown: self.is_shown,
+                    jobs: self.jobs,
                 }))
             }
             Err(error) => Err(RequestError::Filter(error)),

@@ -3,12 +3,13 @@
 /// What `--help` prints, without its last LF. The lines of the options are made of the table of options of
 /// `ether_capture`, by `tests/options.py --set`.
 pub const HELP: &str =
-    "usage: ether_capture [[--plain | --format lines|brief|json | --fields COLUMNS [--header] | --stats [[--fields COLUMNS] [--format json] | --by COLUMNS]] [--limit N] [--status-on-fault yes|no] | --write [-w COPY] [--cut-to-headers | --pop-vlan | --push-vlan TPID:ID | --set-vlan A:B]] [--select EXPR [--undecided keep|drop]] [-c N] [--progress] [-r FILE | FILE..]
+    "usage: ether_capture [[--plain | --format lines|brief|json | --fields COLUMNS [--header] | --stats [[--fields COLUMNS] [--format json] | --by COLUMNS]] [--limit N] [--status-on-fault yes|no] | --write [-w COPY] [--cut-to-headers | --pop-vlan | --push-vlan TPID:ID | --set-vlan A:B]] [--select EXPR [--undecided keep|drop]] [-c N] [--progress] [--jobs N] [-r FILE | FILE..]
 
 Prints the link-layer headers of each packet of captures, pcap or pcapng: of each FILE, or of standard input, which a FILE of - also names. What can't be read or written is said on standard error.
 
   -r FILE           read FILE, as if it was named alone
   --progress        show on standard error how many bytes are read, and how fast
+  --jobs N          make lines in N threads, where the program has threads; the output is the same
 
 Which packets:
   --select EXPR     only packets that match EXPR, as 'vlan 5 or arp'

@@ -64,6 +64,8 @@ pub(in crate::ether_stream) const FORMAT: &str = "--format";
 
 pub(in crate::ether_stream) const HEADER: &str = "--header";
 
+pub(in crate::ether_stream) const JOBS: &str = "--jobs";
+
 pub(in crate::ether_stream) const LIMIT: &str = "--limit";
 
 pub(in crate::ether_stream) const POP_VLAN: &str = "--pop-vlan";

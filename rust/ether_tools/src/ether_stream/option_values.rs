@@ -65,7 +65,7 @@ pub fn edit_of_words<'a>(
     }
 }
 
-/// The value of `-c`, if there is one: a number of packets, 1 at least.
+/// The value of `-c` or `--jobs`, if there is one: a number of packets or threads, 1 at least.
 ///
 /// <details><summary>Contract</summary>
 ///
@@ -73,20 +73,23 @@ pub fn edit_of_words<'a>(
 /// ensures ok { IfOk result
 ///     (λ it. IsIfAny IsCount (option_map (λ s. s.now) text.entry) (option_map non_zero_usize_get it)) }
 /// ensures err { OnErr result ((n : Option ℕ) → ¬ (IsIfAny IsCount (option_map (λ s. s.now) text.entry) n)) }
-/// ensures usage { IfErr result (IsWrongValue ValueOption.Count (option_map (λ s. s.now) text.entry)) }
+/// ensures usage { IfErr result (IsWrongValue option (option_map (λ s. s.now) text.entry)) }
 /// ```
 ///
 /// </details>
-pub fn count_of<'a>(text: Option<&'a str>) -> Result<Option<NonZeroUsize>, Usage<'a>> {
+pub fn count_of<'a>(
+    option: ValueOption,
+    text: Option<&'a str>,
+) -> Result<Option<NonZeroUsize>, Usage<'a>> {
     let Some(text) = text else {
         return Ok(None);
     };
     let Some(number) = small_number(text.as_bytes()) else {
-        return Err(Usage::Value(ValueOption::Count, text));
+        return Err(Usage::Value(option, text));
     };
     match NonZeroUsize::new(number as usize) {
         Some(count) => Ok(Some(count)),
-        None => Err(Usage::Value(ValueOption::Count, text)),
+        None => Err(Usage::Value(option, text)),
     }
 }
 

@@ -2,8 +2,8 @@
 
 use crate::ether_stream::messages::{
     BY, CLASH, COLUMNS, COPIES, COUNT, CUT_TO_HEADERS, EDITS, FIELDS, FORMAT, FORMATS, HEADER,
-    HEADERS, INPUT_TWICE, KEEP_OR_DROP, LIMIT, NO_COLUMN, NO_OPTION, NO_VALUE, PACKETS, POP_VLAN,
-    PUSH_VLAN, PUSHED_TAG, SELECT, SET_VLAN, STATS, STATUS_ON_FAULT, SURPLUS, TWICE,
+    HEADERS, INPUT_TWICE, JOBS, KEEP_OR_DROP, LIMIT, NO_COLUMN, NO_OPTION, NO_VALUE, PACKETS,
+    POP_VLAN, PUSH_VLAN, PUSHED_TAG, SELECT, SET_VLAN, STATS, STATUS_ON_FAULT, SURPLUS, TWICE,
     TWO_IDENTIFIERS, UNDECIDED, YES_OR_NO,
 };
 use std::fmt;
@@ -29,6 +29,8 @@ pub enum ValueOption {
     Fields,
     /// `--by`.
     By,
+    /// `--jobs`.
+    Jobs,
 }
 
 impl ValueOption {
@@ -44,6 +46,7 @@ impl ValueOption {
             ValueOption::Format => FORMAT,
             ValueOption::Fields => FIELDS,
             ValueOption::By => BY,
+            ValueOption::Jobs => JOBS,
         }
     }
 
@@ -52,7 +55,7 @@ impl ValueOption {
         match self {
             ValueOption::PushVlan => PUSHED_TAG,
             ValueOption::SetVlan => TWO_IDENTIFIERS,
-            ValueOption::Count => PACKETS,
+            ValueOption::Count | ValueOption::Jobs => PACKETS,
             ValueOption::Limit => HEADERS,
             ValueOption::Undecided => KEEP_OR_DROP,
             ValueOption::StatusOnFault => YES_OR_NO,

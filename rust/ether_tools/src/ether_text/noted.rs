@@ -1,7 +1,9 @@
 //! Streams that keep the error of a call that failed. Written by hand, not proved.
+use crate::jobs::bell::is_interruption;
 use std::io::{self, ErrorKind, Read, Write};
 
-/// A reader or writer, and the error of the last call on it that failed, but for calls that a signal interrupted.
+/// A reader or writer, and the error of the last call on it that failed, but for calls that a signal or the
+/// [`bell`](crate::jobs::bell) interrupted.
 ///
 /// A run says only that a stream has failed. This says why.
 pub struct Noted<T> {
@@ -20,11 +22,11 @@ impl<T> Noted<T> {
         self.error.as_ref()
     }
 
-    /// Keeps the error of a call, if it has failed, unless a signal interrupted it: then it is tried again.
+    /// Keeps the error of a call, if it has failed, unless it was interrupted: then it is tried again.
     fn note<V>(&mut self, answer: io::Result<V>) -> io::Result<V> {
         answer.map_err(|error| {
             let kind = error.kind();
-            if kind != ErrorKind::Interrupted {
+            if kind != ErrorKind::Interrupted && !is_interruption(&error) {
                 self.error = Some(error);
             }
             kind.into()

@@ -1,5 +1,5 @@
 use Rattle.std.proofs.Common.{rules}
-use Rattle.ether_capture.specs.Options.{wrong_by, wrong_count, wrong_edit, wrong_fields, wrong_format, wrong_limit, wrong_status_on_fault, wrong_undecided}
+use Rattle.ether_capture.specs.Options.{wrong_by, wrong_count, wrong_edit, wrong_fields, wrong_format, wrong_jobs, wrong_limit, wrong_status_on_fault, wrong_undecided}
 use Rattle.ether_capture.proofs.OptionsLemmas.{value_refused}
 use Rattle.ether_capture.proofs.request.Asked.of.Goals as goal
 
@@ -52,3 +52,9 @@ returns-in_err-by-clause-err c =
     let is = c.text_of-5.ensures in
     value_refused _ c.in_err-by.field-0.0 c.from_residual-in_err-by.result
     (wrong_by _ (rw is at c.in_err-by.ensures.err) (rw is at c.in_err-by.ensures.usage)) (search rules)
+
+pub returns-in_err-jobs-clause-err : goal.returns-in_err-jobs-clause-err
+returns-in_err-jobs-clause-err c =
+    let is = c.text_of-8.ensures in
+    value_refused _ c.in_err-jobs.field-0.0 c.from_residual-in_err-jobs.result
+    (wrong_jobs _ (rw is at c.in_err-jobs.ensures.err) (rw is at c.in_err-jobs.ensures.usage)) (search rules)
