@@ -2,7 +2,7 @@
 //!
 //! The first of these signals asks the run to end: so the input is read on for at most a second, since its writer may
 //! have got the signal, too, and end it. Later signals have their default effect.
-use crate::jobs::bell;
+use crate::jobs::{bell, later};
 use arrayvec::ArrayVec;
 use nix::errno::Errno;
 use nix::poll::{PollFd, PollFlags, poll};
@@ -223,7 +223,7 @@ enum Kind {
 /// A file that is not read any more once a signal has ended the run. A read that another signal interrupts is tried
 /// again.
 pub struct Ended<'a> {
-    file: File,
+    file: Arc<File>,
     kind: Kind,
     ending: &'a Ending,
 }
@@ -236,7 +236,7 @@ impl<'a> Ended<'a> {
             _ if file.is_terminal() => Kind::Terminal,
             _ => Kind::Stream,
         };
-        Ended { file, kind, ending }
+        Ended { file: Arc::new(file), kind, ending }
     }
 }
 
@@ -249,6 +249,10 @@ impl Read for Ended<'_> {
         }
         loop {
             self.ending.lets_read(self.file.as_raw_fd(), self.kind)?;
+            let left = if self.kind == Kind::Regular { later::left(&self.file, buf) } else { None };
+            if let Some(count) = left {
+                return Ok(count);
+            }
             match self.file.read(buf) {
                 Err(error) if error.kind() == ErrorKind::Interrupted => {}
                 answer => return answer,

@@ -4,13 +4,17 @@
 //! piece in order. Other threads make the lines. What is written, and how the run ends, is as with one thread: only how
 //! far the capture was read ahead differs.
 pub mod bell;
+mod block;
 mod crew;
 mod cutter;
+pub mod later;
 mod piece;
+mod window;
 
-use crate::ether_stream::{LineOptions, PacketCounts, RunFault, Task, write_totals};
+use crate::ether_stream::{LineOptions, NoMemory, PacketCounts, RunFault, Task, write_totals};
 use crate::ether_text::{Source, Verdict};
 use bell::Bell;
+use block::Block;
 use crew::{Crew, Work};
 use cutter::Cutter;
 use etherpeel::ether_output::{OutputBuffer, Sink};
@@ -24,9 +28,22 @@ enum Found {
     /// The end of the capture.
     End,
     /// A fault.
-    Fault,
+    Fault(RunFault),
     /// Nothing: the requested number of packets was reached before it.
     Enough,
+}
+
+/// How blocks are read.
+#[derive(Clone, Copy, PartialEq, Eq)]
+enum Way {
+    /// The first one, which shows how the capture is packed, is read here.
+    First,
+    /// A read may be left to other threads.
+    Open,
+    /// The last read was left to other threads. So the next one does not wait.
+    Left,
+    /// All are read here.
+    Here,
 }
 
 /// Writes the lines of a capture, made by this number of threads. Returns how the run ended and how many packets were
@@ -46,6 +63,8 @@ pub fn run_lines<R: Source, W: Sink>(
             options,
             cutter: Cutter::new(task.packets_before()),
             crew: Crew::new(scope, work, threads),
+            way: Way::First,
+            end: None,
             counts: PacketCounts::none(task),
             verdict: Verdict::AllAccepted,
             writer,
@@ -62,6 +81,8 @@ struct Run<'a, 'scope, 'env, W> {
     options: &'a LineOptions,
     cutter: Cutter,
     crew: Crew<'scope, 'env>,
+    way: Way,
+    end: Option<Found>,
     counts: PacketCounts,
     verdict: Verdict,
     writer: &'a mut W,
@@ -87,17 +108,14 @@ impl<W: Sink> Run<'_, '_, '_, W> {
         loop {
             let error = self.cutter.cut();
             self.hand_out()?;
-            let Some(required_len) = error.required_len() else {
+            if error.required_len().is_none() {
                 return Ok(Some(self.cutter.fault(error)));
-            };
-            if self.cutter.make_room(required_len).is_err() {
-                return Ok(Some(RunFault::Memory));
             }
             match self.read(reader)? {
                 Found::Bytes => {}
                 Found::End if !self.cutter.is_over() => return Ok(Some(self.cutter.fault(error))),
                 Found::End | Found::Enough => return Ok(None),
-                Found::Fault => return Ok(Some(RunFault::Input)),
+                Found::Fault(fault) => return Ok(Some(fault)),
             }
         }
     }
@@ -108,27 +126,75 @@ impl<W: Sink> Run<'_, '_, '_, W> {
             self.crew.wait();
             self.write_made()?;
         }
-        if let Some(mut piece) = self.cutter.take_piece(&mut self.crew.spare) {
+        if let Some(mut piece) = self.cutter.take_piece() {
             piece.asked_for = self.counts.left;
-            self.crew.give(piece);
+            self.crew.give_piece(piece);
         }
         Ok(())
     }
 
-    /// Writes what is made, and reads on. While lines are still being made, the read of a stream does not wait longer
-    /// than they take.
+    /// Writes what is made, and reads on: a block, or as many as may be left to other threads. While lines are still being
+    /// made, the read of a stream does not wait longer than they take.
     fn read<R: Source>(&mut self, reader: &mut R) -> Result<Found, RunFault> {
         loop {
             self.write_made()?;
             if self.is_done() {
                 return Ok(Found::Enough);
             }
-            match self.cutter.read_from(reader) {
-                Ok(0) => return Ok(Found::End),
-                Ok(_) => return Ok(Found::Bytes),
-                Err(_) if bell::has_rung() => {}
-                Err(_) => return Ok(Found::Fault),
+            match self.crew.next_read() {
+                Some(block) if block.is_read => return Ok(self.append(block)),
+                Some(block) => self.read_again(&block),
+                None => {}
             }
+            let may_read = !self.crew.is_reading() || self.way == Way::Left && self.crew.may_read();
+            if self.end.is_none() && may_read {
+                self.read_block(reader);
+            } else if self.crew.is_reading() {
+                self.crew.wait();
+            } else if let Some(end) = self.end.take() {
+                return Ok(end);
+            }
+        }
+    }
+
+    /// Reads the next block, or lets another thread do so, if that can be.
+    fn read_block<R: Source>(&mut self, reader: &mut R) {
+        let spare = self.crew.spare();
+        let Ok(mut block) = Block::new(spare) else {
+            self.end = Some(Found::Fault(RunFault::Memory));
+            return;
+        };
+        match block.read_from(reader, matches!(self.way, Way::Open | Way::Left)) {
+            Ok(0) => self.end = Some(Found::End),
+            Ok(_) => {
+                self.way = match self.way {
+                    Way::Here => Way::Here,
+                    _ if block.is_read => Way::Open,
+                    _ => Way::Left,
+                };
+                block.reader = self.cutter.reader_of_records();
+                self.crew.give_block(block);
+            }
+            Err(_) if bell::has_rung() => self.crew.keep(block.bytes),
+            Err(_) => self.end = Some(Found::Fault(RunFault::Input)),
+        }
+    }
+
+    /// Reads a block again, and those after it, which another thread could not read: this shows why.
+    fn read_again(&mut self, block: &Block) {
+        block.give_back();
+        self.crew.forget_blocks();
+        (self.way, self.end) = (Way::Here, None);
+    }
+
+    /// Appends a block to the bytes that are to be cut.
+    fn append(&mut self, block: Block) -> Found {
+        match self.cutter.append(block) {
+            Ok(bytes) => {
+                self.crew.keep(bytes);
+                Found::Bytes
+            }
+            Err(NoMemory) => Found::Fault(RunFault::Memory),
         }
     }
 
@@ -171,7 +237,7 @@ impl<W: Sink> Run<'_, '_, '_, W> {
         self.counts.undecided = self.counts.undecided.saturating_add(made.counts.undecided);
         self.counts.left = self.counts.left.map(|left| left.saturating_sub(chosen));
         self.verdict = self.verdict.with(made.verdict == Verdict::AllAccepted);
-        self.crew.keep(piece);
+        self.crew.keep_piece(piece);
         Ok(())
     }
 

@@ -1,8 +1,9 @@
-//! The threads that make lines, and the pieces that they have. Written by hand, not proved.
+//! The threads, and what they have to do. Written by hand, not proved.
 use super::bell::Bell;
-use super::piece::Piece;
+use super::block::{Block, MEMORY};
+use super::piece::{Piece, Text};
+use super::window::Window;
 use crate::ether_stream::{LineOptions, Task};
-use std::collections::VecDeque;
 use std::sync::mpsc::{Receiver, Sender, channel};
 use std::sync::{Arc, Mutex};
 use std::thread::{Builder, Scope};
@@ -10,13 +11,13 @@ use std::thread::{Builder, Scope};
 /// How many threads there are at most, whatever is asked for.
 const MOST_THREADS: usize = 64;
 
-/// How many pieces are under way for each thread.
-const PIECES: usize = 3;
+/// How many pieces are under way for each thread, and how many blocks.
+const EACH: usize = 3;
 
 /// A piece with fewer bytes is not worth a thread, if no other one is under way.
 const SHORT: usize = 16_384;
 
-/// How many bytes the memory of a piece may have that is used again.
+/// How many bytes memory may have that is used again.
 const MOST_BYTES: usize = 4_194_304;
 
 /// What threads make of pieces.
@@ -26,128 +27,190 @@ pub struct Work<'a> {
     pub task: &'a Task,
     /// Which lines a packet has.
     pub options: &'a LineOptions,
-    /// What a thread rings after each piece.
+    /// What a thread rings whenever something is done.
     pub bell: &'a Bell,
 }
 
-/// Threads, which are started as they are needed, and the pieces that are under way: those that were given and whose lines
-/// were not taken yet.
+/// What one thread does at once, with its number.
+enum Job {
+    /// To read a block.
+    Read(usize, Block),
+    /// To make the lines of a piece.
+    Make(usize, Piece),
+}
+
+/// Threads, which are started as they are needed, and what is under way.
 pub struct Crew<'scope, 'env> {
     scope: &'scope Scope<'scope, 'env>,
     work: Work<'env>,
     most: usize,
     threads: usize,
-    to_make: Sender<Piece>,
-    waiting: Arc<Mutex<Receiver<Piece>>>,
-    made: Sender<Piece>,
-    gathered: Receiver<Piece>,
-    given: usize,
-    under_way: VecDeque<Option<Piece>>,
-    /// Pieces whose memory can be used again.
-    pub spare: Vec<Piece>,
+    to_do: Sender<Job>,
+    waiting: Arc<Mutex<Receiver<Job>>>,
+    done: Sender<Job>,
+    gathered: Receiver<Job>,
+    pieces: Window<Piece>,
+    blocks: Window<Block>,
+    spare: Vec<Vec<u8>>,
+    texts: Vec<Text>,
 }
 
 impl<'scope, 'env> Crew<'scope, 'env> {
     /// A crew of this many threads at most. None is started yet.
     pub fn new(scope: &'scope Scope<'scope, 'env>, work: Work<'env>, threads: usize) -> Self {
-        let ((to_make, waiting), (made, gathered)) = (channel(), channel());
+        let ((to_do, waiting), (done, gathered)) = (channel(), channel());
         Crew {
             scope,
             work,
             most: threads.min(MOST_THREADS),
             threads: 0,
-            to_make,
+            to_do,
             waiting: Arc::new(Mutex::new(waiting)),
-            made,
+            done,
             gathered,
-            given: 0,
-            under_way: VecDeque::new(),
+            pieces: Window::new(),
+            blocks: Window::new(),
             spare: Vec::new(),
+            texts: Vec::new(),
         }
     }
 
     /// Tests that another piece may be given.
     pub fn has_room(&self) -> bool {
-        self.under_way.len() < self.most * PIECES
+        self.pieces.len() < self.most * EACH
     }
 
     /// Tests that no piece is under way.
     pub fn is_idle(&self) -> bool {
-        self.under_way.is_empty()
+        self.pieces.len() == 0
     }
 
-    /// Gives a piece to the threads. If there is none, or if it is not worth one, its lines are made at once.
-    pub fn give(&mut self, mut piece: Piece) {
-        piece.place = self.given;
-        self.given += 1;
-        let is_short = piece.len < SHORT && self.is_idle();
-        self.under_way.push_back(None);
-        if is_short || !self.has_thread() {
-            piece.make(self.work.task, self.work.options);
-            self.put(piece);
-        } else if let Err(refused) = self.to_make.send(piece) {
-            self.put(refused.0);
+    /// Tests that another block may be given.
+    pub fn may_read(&self) -> bool {
+        self.blocks.len() < self.most * EACH
+    }
+
+    /// Tests that a block is under way.
+    pub fn is_reading(&self) -> bool {
+        self.blocks.len() > 0
+    }
+
+    /// Gives a piece to the threads. If it is not worth one, its lines are made at once.
+    pub fn give_piece(&mut self, mut piece: Piece) {
+        let is_short = piece.units.len() < SHORT && self.is_idle();
+        piece.made.text = self.texts.pop().unwrap_or_default();
+        let number = self.pieces.begin();
+        self.give(Job::Make(number, piece), is_short);
+    }
+
+    /// Gives a block to the threads, unless it was read already.
+    pub fn give_block(&mut self, block: Block) {
+        let (number, is_read) = (self.blocks.begin(), block.is_read);
+        if is_read {
+            self.blocks.put(number, block);
+        } else {
+            self.give(Job::Read(number, block), false);
         }
     }
 
-    /// Tests that there is a thread, and starts another one, if there are fewer than pieces.
+    /// Gives something to the threads, unless it is done here, or there is no thread.
+    fn give(&mut self, job: Job, is_done_here: bool) {
+        if is_done_here || !self.has_thread() {
+            let job = done(self.work, job);
+            self.put(job);
+        } else if let Err(refused) = self.to_do.send(job) {
+            self.put(done(self.work, refused.0));
+        }
+    }
+
+    /// Tests that there is a thread, and starts another one, if there are fewer than what is under way.
     fn has_thread(&mut self) -> bool {
-        if self.threads < self.most.min(self.under_way.len()) {
-            let (work, waiting, made) = (self.work, Arc::clone(&self.waiting), self.made.clone());
-            let started = Builder::new().spawn_scoped(self.scope, move || make_pieces(work, &waiting, &made));
+        if self.threads < self.most.min(self.pieces.len() + self.blocks.len()) {
+            let (work, waiting, done) = (self.work, Arc::clone(&self.waiting), self.done.clone());
+            let started = Builder::new().spawn_scoped(self.scope, move || do_jobs(work, &waiting, &done));
             self.threads += usize::from(started.is_ok());
         }
         self.threads > 0
     }
 
-    /// Waits until the lines of another piece are made.
+    /// Waits until something is done.
     pub fn wait(&mut self) {
-        if let Ok(piece) = self.gathered.recv() {
-            self.put(piece);
+        if let Ok(job) = self.gathered.recv() {
+            self.put(job);
         }
     }
 
-    /// Gathers the pieces whose lines are made.
+    /// Gathers what is done.
     pub fn gather(&mut self) {
-        while let Ok(piece) = self.gathered.try_recv() {
-            self.put(piece);
+        while let Ok(job) = self.gathered.try_recv() {
+            self.put(job);
         }
     }
 
-    /// Puts a piece whose lines are made to its place.
-    fn put(&mut self, piece: Piece) {
-        let first = self.given - self.under_way.len();
-        let place = piece.place - first;
-        self.under_way[place] = Some(piece);
+    /// Puts what is done to its place.
+    fn put(&mut self, job: Job) {
+        match job {
+            Job::Read(number, block) => self.blocks.put(number, block),
+            Job::Make(number, piece) => self.pieces.put(number, piece),
+        }
     }
 
     /// Takes the first piece that is under way, if its lines are made.
     pub fn next_made(&mut self) -> Option<Piece> {
-        let piece = self.under_way.front_mut()?.take()?;
-        self.under_way.pop_front();
-        Some(piece)
+        self.pieces.take()
     }
 
-    /// Keeps the memory of a piece for another one, unless it is much.
-    pub fn keep(&mut self, piece: Piece) {
-        if piece.bytes.len() + piece.made.text.bytes.capacity() <= MOST_BYTES {
-            self.spare.push(piece);
+    /// Takes the first block that is under way, if a thread is done with it.
+    pub fn next_read(&mut self) -> Option<Block> {
+        self.blocks.take()
+    }
+
+    /// Forgets the blocks that are under way.
+    pub fn forget_blocks(&mut self) {
+        self.blocks.forget();
+    }
+
+    /// Memory for a block, if there is some to be used again.
+    pub fn spare(&mut self) -> Option<Vec<u8>> {
+        self.spare.pop()
+    }
+
+    /// Keeps memory for a block to be used again, unless it is much.
+    pub fn keep(&mut self, bytes: Vec<u8>) {
+        if (MEMORY..=MOST_BYTES).contains(&bytes.len()) {
+            self.spare.push(bytes);
+        }
+    }
+
+    /// Keeps the memory of a piece to be used again.
+    pub fn keep_piece(&mut self, piece: Piece) {
+        self.keep(piece.bytes);
+        if piece.made.text.bytes.capacity() <= MOST_BYTES {
+            self.texts.push(piece.made.text);
         }
     }
 }
 
-/// Makes the lines of pieces, until there are no more.
-fn make_pieces(work: Work<'_>, waiting: &Mutex<Receiver<Piece>>, made: &Sender<Piece>) {
-    while let Some(mut piece) = next_piece(waiting) {
-        piece.make(work.task, work.options);
-        if made.send(piece).is_err() {
+/// Does what is to do, until there is no more.
+fn do_jobs(work: Work<'_>, waiting: &Mutex<Receiver<Job>>, gathered: &Sender<Job>) {
+    while let Some(job) = next_job(waiting) {
+        if gathered.send(done(work, job)).is_err() {
             return;
         }
         work.bell.ring();
     }
 }
 
-/// Waits for a piece. There is none if no more are given.
-fn next_piece(waiting: &Mutex<Receiver<Piece>>) -> Option<Piece> {
+/// Waits for something to do. There is nothing once the run is over.
+fn next_job(waiting: &Mutex<Receiver<Job>>) -> Option<Job> {
     waiting.lock().ok()?.recv().ok()
+}
+
+/// Does something.
+fn done(work: Work<'_>, mut job: Job) -> Job {
+    match &mut job {
+        Job::Read(_, block) => block.read_left(),
+        Job::Make(_, piece) => piece.make(work.task, work.options),
+    }
+    job
 }

@@ -1,37 +1,59 @@
-//! Reads a capture, and cuts it into pieces. Written by hand, not proved.
+//! Cuts a capture into pieces. Written by hand, not proved.
+use super::block::{Block, Units};
 use super::piece::{Interfaces, Piece};
 use crate::ether_stream::{NoMemory, RunFault};
-use crate::ether_text::{InputFault, Source};
-use etherpeel::ether_pcap::{CaptureError, CaptureFault, CaptureReader};
+use etherpeel::ether_pcap::{CaptureError, CaptureFault, CaptureReader, FileHeader};
 use std::mem;
 
-/// How many bytes a piece has room for at least.
-const ROOM: usize = 262_144;
-
-/// A capture that is being read, and its last piece.
+/// The bytes of a capture that are read and not handed out, and how far they are cut into units.
 pub struct Cutter {
     reader: CaptureReader<Interfaces>,
-    piece: Piece,
-    end: usize,
+    begin: CaptureReader<Interfaces>,
+    before: usize,
     packets: usize,
     offset: usize,
-    has_memory: bool,
+    bytes: Vec<u8>,
+    start: usize,
+    cut: usize,
+    end: usize,
+    units: Option<Units>,
+    is_classic: bool,
 }
 
 impl Cutter {
     /// The begin of a capture that follows others with this number of packets.
     pub fn new(before: usize) -> Cutter {
-        let piece = Piece { before, ..Piece::new() };
-        Cutter { reader: piece.reader.clone(), piece, end: 0, packets: before, offset: 0, has_memory: true }
+        let reader = CaptureReader::new(Interfaces::default());
+        let begin = reader.clone();
+        Cutter {
+            reader,
+            begin,
+            before,
+            packets: before,
+            offset: 0,
+            bytes: Vec::new(),
+            start: 0,
+            cut: 0,
+            end: 0,
+            units: None,
+            is_classic: false,
+        }
     }
 
-    /// Adds the units that were read to the piece. Returns why the bytes that are left do not begin with a unit.
+    /// Cuts the bytes into units. Returns why those that are left do not begin with a unit. Units that another thread has
+    /// found are not looked at, if they begin where a unit does.
     pub fn cut(&mut self) -> CaptureError {
         loop {
-            match self.reader.read(&self.piece.bytes[self.piece.len..self.end]) {
+            if let Some(found) = self.units.take_if(|units| units.start == self.cut) {
+                self.packets = self.packets.saturating_add(found.packets);
+                self.offset = self.offset.saturating_add(found.end - found.start);
+                self.cut = found.end;
+            }
+            match self.reader.read(&self.bytes[self.cut..self.end]) {
                 Ok(unit) => {
+                    self.is_classic |= self.offset == 0 && unit.len == FileHeader::LEN;
                     self.packets = self.packets.saturating_add(usize::from(unit.packet.is_some()));
-                    self.piece.len += unit.len;
+                    self.cut += unit.len;
                     self.offset = self.offset.saturating_add(unit.len);
                 }
                 Err(error) => return error,
@@ -39,36 +61,46 @@ impl Cutter {
         }
     }
 
-    /// Takes the piece, if it has units, and begins the next one with the bytes that are left, in memory that is spare. If
-    /// memory for these is refused, there will be no room for more.
-    pub fn take_piece(&mut self, spare: &mut Vec<Piece>) -> Option<Piece> {
-        if self.piece.len == 0 {
+    /// Takes the units as a piece, if there are any.
+    pub fn take_piece(&mut self) -> Option<Piece> {
+        if self.start == self.cut {
             return None;
         }
-        let mut next = spare.pop().unwrap_or_else(Piece::new);
-        let left = &self.piece.bytes[self.piece.len..self.end];
-        self.has_memory = grow(&mut next.bytes, left.len().max(ROOM)).is_ok();
-        self.end = if self.has_memory { left.len() } else { 0 };
-        next.bytes[..self.end].copy_from_slice(&left[..self.end]);
-        next.reader = self.reader.clone();
-        next.before = self.packets;
-        next.len = 0;
-        Some(mem::replace(&mut self.piece, next))
+        let left = self.bytes[self.cut..self.end].to_vec();
+        self.end = left.len();
+        let piece = Piece {
+            reader: mem::replace(&mut self.begin, self.reader.clone()),
+            before: mem::replace(&mut self.before, self.packets),
+            bytes: mem::replace(&mut self.bytes, left),
+            units: self.start..self.cut,
+            ..Piece::new()
+        };
+        (self.start, self.cut) = (0, 0);
+        Some(piece)
     }
 
-    /// Makes room for a unit of this many bytes.
-    pub fn make_room(&mut self, len: usize) -> Result<(), NoMemory> {
-        if !self.has_memory {
-            return Err(NoMemory);
+    /// The reader of a classic capture: each of its records is read alone.
+    pub fn reader_of_records(&self) -> Option<CaptureReader<Interfaces>> {
+        Some(self.reader.clone()).filter(|_| self.is_classic)
+    }
+
+    /// Appends a block to the bytes that are left. Returns memory that is spare.
+    pub fn append(&mut self, mut block: Block) -> Result<Vec<u8>, NoMemory> {
+        let left = &self.bytes[self.start..self.end];
+        self.units = block.units.take();
+        if left.len() <= block.start {
+            self.start = block.start - left.len();
+            block.bytes[self.start..block.start].copy_from_slice(left);
+            (self.cut, self.end) = (self.start, block.end);
+            return Ok(mem::replace(&mut self.bytes, block.bytes));
         }
-        grow(&mut self.piece.bytes, len.max(ROOM))
-    }
-
-    /// Reads some bytes, and returns their number: 0 at the end of the capture.
-    pub fn read_from<R: Source>(&mut self, reader: &mut R) -> Result<usize, InputFault> {
-        let count = reader.read_some(&mut self.piece.bytes[self.end..])?;
-        self.end += count;
-        Ok(count)
+        self.units = None;
+        self.bytes.truncate(self.end);
+        let more = &block.bytes[block.start..block.end];
+        self.bytes.try_reserve(more.len()).map_err(|_| NoMemory)?;
+        self.bytes.extend_from_slice(more);
+        self.end = self.bytes.len();
+        Ok(block.bytes)
     }
 
     /// Why the run stops if the bytes that are left do not begin with a unit.
@@ -78,14 +110,6 @@ impl Cutter {
 
     /// Tests that the capture has begun, and that no bytes are left.
     pub fn is_over(&self) -> bool {
-        self.reader.has_begun() && self.end == self.piece.len
+        self.reader.has_begun() && self.cut == self.end
     }
-}
-
-/// Makes room for this many bytes.
-fn grow(bytes: &mut Vec<u8>, len: usize) -> Result<(), NoMemory> {
-    let more = len.saturating_sub(bytes.len());
-    bytes.try_reserve_exact(more).map_err(|_| NoMemory)?;
-    bytes.resize(bytes.len() + more, 0);
-    Ok(())
 }

@@ -5,7 +5,11 @@ use etherpeel::ether_content::Content;
 use etherpeel::ether_output::{OutputBuffer, OutputFault, Sink};
 use etherpeel::ether_pcap::{CaptureInterface, CaptureReader, CapturedPacket, InterfaceTable};
 use std::mem;
+use std::ops::Range;
 use std::sync::Arc;
+
+/// How many bytes of lines are expected for a byte of a piece.
+const EXPECTED: usize = 2;
 
 /// The interfaces of a section. A clone has the same memory, until one of the two changes.
 #[derive(Clone, Default)]
@@ -33,18 +37,16 @@ impl InterfaceTable for Interfaces {
 
 /// Whole units of a capture, and the lines of their packets.
 pub struct Piece {
-    /// Its place among the pieces of the capture.
-    pub place: usize,
     /// The reader before the first of its units.
     pub reader: CaptureReader<Interfaces>,
     /// How many packets there are before it, also in the captures before this one.
     pub before: usize,
     /// How many chosen packets are asked for, if their number is limited.
     pub asked_for: Option<usize>,
-    /// Its units, and room after them.
+    /// Memory that has its units, and other bytes.
     pub bytes: Vec<u8>,
-    /// How many bytes its units have.
-    pub len: usize,
+    /// Where its units are.
+    pub units: Range<usize>,
     /// What is made of it.
     pub made: Made,
 }
@@ -53,12 +55,11 @@ impl Piece {
     /// A piece without units.
     pub fn new() -> Piece {
         Piece {
-            place: 0,
             reader: CaptureReader::new(Interfaces::default()),
             before: 0,
             asked_for: None,
             bytes: Vec::new(),
-            len: 0,
+            units: 0..0,
             made: Made::new(0, None),
         }
     }
@@ -68,8 +69,9 @@ impl Piece {
         self.made.begin(self.before, self.asked_for);
         let mut reader = self.reader.clone();
         let mut text = mem::take(&mut self.made.text);
+        let _ = text.bytes.try_reserve(EXPECTED * self.units.len());
         let mut out = OutputBuffer::new(&mut text);
-        let mut rest = &self.bytes[..self.len];
+        let mut rest = &self.bytes[self.units.clone()];
         while let (false, Ok(unit)) = (self.made.counts.left == Some(0), reader.read(rest)) {
             rest = &rest[unit.len..];
             if let Some(packet) = &unit.packet {
