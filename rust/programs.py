@@ -1,5 +1,5 @@
 """Builds the programs by cargo, and runs over them the tests that run over the proved ones, and those of what only they do: they end well on signals
-(endings.py), and unpack captures (packed.py).
+(endings.py), unpack captures (packed.py), and make lines in threads (threads.py).
 
     python3 rust/programs.py
 
@@ -18,7 +18,7 @@ import building  # noqa: E402
 
 TOP = os.path.dirname(building.HERE)
 TESTS = [("ether_tool", "tests/ether_tool.py"), ("ether_capture", "tests/ether_capture.py", "--gzip"), ("ether_capture", "tests/other_programs.py"),
-         ("ether_capture", "rust/endings.py"), ("ether_capture", "rust/packed.py")]
+         ("ether_capture", "rust/endings.py"), ("ether_capture", "rust/packed.py"), ("ether_capture", "rust/threads.py")]
 EXAMPLES = ["example_switch", "example_vlan_rewriter"]
 RELEASE = os.path.join(building.PROGRAMS, "target", "release")
 

@@ -155,6 +155,44 @@ def others(program):
     yield "--jobs 4294967295", partial(run_apart, program, ["--jobs", "4294967295"], given), partial(run_apart, program, [], given)
 
 
+def unread(program):
+    """Reads of threads that fail: the bytes are read again, so that nothing is lost, or that the message has the reason."""
+    if not which("strace"):
+        print("left out: reads that fail, since there is no strace")
+        return
+    given = drawn(3_000_000)
+    for when, jobs in itertools.product(("1", "3", "2+3", "5+"), JOBS):
+        fails = partial(with_faults, program, ["--jobs", str(jobs)], given)
+        yield f"threads can't read {when} {jobs}", partial(fails, f"pread64:error=EIO:when={when}"), partial(run_apart, program, ["--plain"], given)
+    for jobs in JOBS:
+        text, said, status = with_faults(program, ["--jobs", str(jobs)], given, "pread64:error=EIO", "read:error=EIO:when=2+")
+        begins = text and run_apart(program, ["--plain"], given)[0].startswith(text)
+        yield f"nothing can be read {jobs}", (bool(begins), said, status), (True, "capture: can't be read\n", 4)
+
+
+def with_faults(program, words, given, *injected):
+    """What is printed of a file if reads of it fail."""
+    with tempfile.TemporaryDirectory() as folder:
+        path = os.path.join(os.path.realpath(folder), "capture")
+        with open(path, "wb") as file:
+            file.write(given)
+        traced = ["strace", "-f", "-qq", "-o", "/dev/null", "-P", path, *(word for it in injected for word in ("-e", f"inject={it}"))]
+        return run_apart(traced[0], [*traced[1:], program, "--plain", *words, "capture"], b"", cwd=folder)
+
+
+def nested(program):
+    """Packets that have records of captures in them: no thread may take these for records."""
+    inner = classic(*SIX)[24:]
+    later = inner.replace(bytes.fromhex("6553f100"), bytes.fromhex("6553f101"))
+    frames = [DRAWN.randbytes(DRAWN.randrange(40)) + DRAWN.choice([inner, later]) * DRAWN.randrange(1, 300) for _ in range(300)]
+    yield from pairs(program, "captures in packets", classic(*frames), WORDS[:6])
+    same = classic(*[bytes(64)] * 30_000)
+    yield from pairs(program, "equal packets", same, WORDS[:6])
+    at = bytes.fromhex("6553f100")
+    years = b"".join(same[24:][place:place + 80].replace(at, (DRAWN.randrange(1 << 32)).to_bytes(4, "big")) for place in range(0, 800_000, 80))
+    yield from pairs(program, "packets of all years", same[:24] + years, WORDS[:6])
+
+
 def progress(program, words, given):
     """The last bytes that are shown, their number in all, and what is said besides."""
     return shown(in_a_file(program, ["--progress", "--plain", *words], given)[1])[1:]
@@ -245,7 +283,7 @@ def main():
     words.add_argument("word", metavar="WORD", nargs="?", default="")
     given = words.parse_args()
     program = os.path.realpath(given.program)
-    return count((it for group in (alike, damaged, several, others, coming, read_by_tshark) for it in group(program)), given.word)
+    return count((it for group in (alike, damaged, nested, several, others, unread, coming, read_by_tshark) for it in group(program)), given.word)
 
 
 if __name__ == "__main__":

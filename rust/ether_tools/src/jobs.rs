@@ -1,8 +1,8 @@
 //! The lines of a capture, made by several threads. Written by hand, not proved.
 //!
 //! The thread of the program reads the capture, cuts it into pieces between its packets, and writes their lines, piece by
-//! piece in order. Other threads make the lines. What is written, and how the run ends, is as with one thread: only how
-//! far the capture was read ahead differs.
+//! piece in order. Other threads make the lines, and read the blocks of regular files. What is written, and how the run
+//! ends, is as with one thread: only how far the capture is read ahead differs.
 pub mod bell;
 mod block;
 mod crew;
@@ -122,6 +122,7 @@ impl<W: Sink> Run<'_, '_, '_, W> {
 
     /// Hands out the piece that was cut, if there is one. If there are many already, waits for the first of them.
     fn hand_out(&mut self) -> Result<(), RunFault> {
+        self.write_made()?;
         while !self.crew.has_room() {
             self.crew.wait();
             self.write_made()?;
@@ -172,7 +173,7 @@ impl<W: Sink> Run<'_, '_, '_, W> {
                     _ if block.is_read => Way::Open,
                     _ => Way::Left,
                 };
-                block.reader = self.cutter.reader_of_records();
+                block.records = self.cutter.records();
                 self.crew.give_block(block);
             }
             Err(_) if bell::has_rung() => self.crew.keep(block.bytes),

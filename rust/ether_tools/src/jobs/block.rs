@@ -3,7 +3,7 @@ use super::later::{Later, asked};
 use super::piece::Interfaces;
 use crate::ether_stream::NoMemory;
 use crate::ether_text::{InputFault, Source};
-use etherpeel::ether_pcap::{CaptureReader, CaptureUnit};
+use etherpeel::ether_pcap::{CaptureReader, CaptureUnit, CapturedPacket};
 
 /// How many bytes are read at once.
 const ROOM: usize = 262_144;
@@ -13,6 +13,9 @@ const FRONT: usize = 65_536;
 
 /// How many records have to follow each other.
 const RECORDS: usize = 4;
+
+/// How many seconds are at most between packets of the same capture, in most captures.
+const NEAR: u64 = 4_000_000;
 
 /// How many bytes the memory of a block has at least.
 pub const MEMORY: usize = FRONT + ROOM;
@@ -28,9 +31,9 @@ pub struct Block {
     later: Option<Later>,
     /// Whether all of them were read.
     pub is_read: bool,
-    /// The reader of its records, if the capture is a classic one: each record is read alone.
-    pub reader: Option<CaptureReader<Interfaces>>,
-    /// The records, if they were looked for.
+    /// How its records are read, if they are to be looked for.
+    pub records: Option<Records>,
+    /// The records that were found.
     pub units: Option<Units>,
 }
 
@@ -51,7 +54,7 @@ impl Block {
         let more = MEMORY.saturating_sub(bytes.len());
         bytes.try_reserve_exact(more).map_err(|_| NoMemory)?;
         bytes.resize(bytes.len() + more, 0);
-        Ok(Block { bytes, start: FRONT, end: FRONT, later: None, is_read: true, reader: None, units: None })
+        Ok(Block { bytes, start: FRONT, end: FRONT, later: None, is_read: true, records: None, units: None })
     }
 
     /// Reads the next bytes of a capture, and returns their number: 0 at its end. They may be left to another thread.
@@ -70,18 +73,18 @@ impl Block {
     pub fn read_left(&mut self) {
         let room = &mut self.bytes[self.start..self.end];
         self.is_read = self.later.as_ref().is_some_and(|later| later.read(room));
-        if let Some(reader) = self.reader.take().filter(|_| self.is_read) {
-            self.units = self.records(reader);
+        if let Some(records) = self.records.take().filter(|_| self.is_read) {
+            self.units = self.find(records);
         }
     }
 
     /// The records from the first place on where some that follow each other seem to be.
-    fn records(&self, mut reader: CaptureReader<Interfaces>) -> Option<Units> {
+    fn find(&self, mut records: Records) -> Option<Units> {
         let bytes = &self.bytes[..self.end];
         let last = self.end.min(self.start + FRONT);
-        let start = (self.start..last).find(|place| seems_to_begin(&mut reader, &bytes[*place..]))?;
+        let start = (self.start..last).find(|place| records.seem_to_begin(&bytes[*place..]))?;
         let (mut end, mut packets) = (start, 0);
-        while let Ok(unit) = reader.read(&bytes[end..]) {
+        while let Ok(unit) = records.reader.read(&bytes[end..]) {
             end += unit.len;
             packets += 1;
         }
@@ -96,16 +99,32 @@ impl Block {
     }
 }
 
-/// Tests that some records seem to follow each other: none has more bytes than its packet had.
-fn seems_to_begin(reader: &mut CaptureReader<Interfaces>, bytes: &[u8]) -> bool {
-    let mut rest = bytes;
-    for _ in 0..RECORDS {
-        match reader.read(rest) {
-            Ok(CaptureUnit { len, packet: Some(packet) }) if packet.packet.len() <= packet.original_len as usize => {
-                rest = &rest[len..]
+/// How the records of a classic capture are read: each of them alone.
+#[derive(Clone)]
+pub struct Records {
+    /// The reader after the file header.
+    pub reader: CaptureReader<Interfaces>,
+    /// When a packet was captured, in seconds.
+    pub seconds: u64,
+}
+
+impl Records {
+    /// Tests that some records seem to follow each other: each has no more bytes than its packet had, and a time that is
+    /// not far from others.
+    fn seem_to_begin(&mut self, bytes: &[u8]) -> bool {
+        let mut rest = bytes;
+        for _ in 0..RECORDS {
+            match self.reader.read(rest) {
+                Ok(CaptureUnit { len, packet: Some(packet) }) if self.is_likely(&packet) => rest = &rest[len..],
+                _ => return false,
             }
-            _ => return false,
         }
+        true
     }
-    true
+
+    /// Tests that a packet is likely one of the capture.
+    fn is_likely(&self, packet: &CapturedPacket<'_>) -> bool {
+        let is_near = packet.time.is_some_and(|time| time.seconds.abs_diff(self.seconds) <= NEAR);
+        is_near && packet.packet.len() <= packet.original_len as usize
+    }
 }

@@ -12,7 +12,7 @@ use std::thread::{Builder, Scope};
 const MOST_THREADS: usize = 64;
 
 /// How many pieces are under way for each thread, and how many blocks.
-const EACH: usize = 3;
+const EACH: usize = 2;
 
 /// A piece with fewer bytes is not worth a thread, if no other one is under way.
 const SHORT: usize = 16_384;

@@ -1,5 +1,5 @@
 //! Cuts a capture into pieces. Written by hand, not proved.
-use super::block::{Block, Units};
+use super::block::{Block, Records, Units};
 use super::piece::{Interfaces, Piece};
 use crate::ether_stream::{NoMemory, RunFault};
 use etherpeel::ether_pcap::{CaptureError, CaptureFault, CaptureReader, FileHeader};
@@ -18,6 +18,7 @@ pub struct Cutter {
     end: usize,
     units: Option<Units>,
     is_classic: bool,
+    seconds: u64,
 }
 
 impl Cutter {
@@ -37,6 +38,7 @@ impl Cutter {
             end: 0,
             units: None,
             is_classic: false,
+            seconds: 0,
         }
     }
 
@@ -53,6 +55,7 @@ impl Cutter {
                 Ok(unit) => {
                     self.is_classic |= self.offset == 0 && unit.len == FileHeader::LEN;
                     self.packets = self.packets.saturating_add(usize::from(unit.packet.is_some()));
+                    self.seconds = unit.packet.and_then(|packet| packet.time).map_or(self.seconds, |time| time.seconds);
                     self.cut += unit.len;
                     self.offset = self.offset.saturating_add(unit.len);
                 }
@@ -79,9 +82,9 @@ impl Cutter {
         Some(piece)
     }
 
-    /// The reader of a classic capture: each of its records is read alone.
-    pub fn reader_of_records(&self) -> Option<CaptureReader<Interfaces>> {
-        Some(self.reader.clone()).filter(|_| self.is_classic)
+    /// How the records of the capture are read, if it is a classic one.
+    pub fn records(&self) -> Option<Records> {
+        if self.is_classic { Some(Records { reader: self.reader.clone(), seconds: self.seconds }) } else { None }
     }
 
     /// Appends a block to the bytes that are left. Returns memory that is spare.
