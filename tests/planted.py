@@ -163,7 +163,9 @@ class Trial:
             return [[sys.executable, f"{self.page(number, fault)}/test.py"]]
         if "examples" in path:
             return [[sys.executable, f"{tests}/examples.py", *examples]]
-        words = [[f"{tests}/ether_capture.py", "--gzip"], [f"{self.tree}/rust/packed.py"], [f"{self.tree}/rust/endings.py"]]
+        if "jobs" in path:
+            return [[sys.executable, f"{self.tree}/rust/threads.py", f"{self.programs}/ether_capture"]]
+        words = [[f"{tests}/ether_capture.py", "--gzip"], [f"{self.tree}/rust/packed.py"], [f"{self.tree}/rust/endings.py"], [f"{self.tree}/rust/threads.py"]]
         words = [[sys.executable, *it, f"{self.programs}/ether_capture"] for it in words]
         return [*words, [sys.executable, f"{tests}/ether_tool.py", f"{self.programs}/ether_tool"]]
 

@@ -22,6 +22,8 @@ STREAMS, NOTED, FILES, COPIES, PROGRESS, OPTIONS, TABLE, MEMORY, TEXT, INTERFACE
         "streams", "ether_text/noted", "ether_capture/capture_files", "ether_capture/copy_files", "ether_capture/progress_line",
         "ether_capture/options", "ether_capture/count_table", "ether_capture/heap_memory", "ether_capture/heap_text",
         "ether_capture/interface_buffer", "bin/ether_capture", "bin/ether_tool", "ending", "gzip", "reasons"))
+JOBS, BELL, BLOCK, CUTTER, LATER, PIECE = (
+    f"rust/ether_tools/src/{name}.rs" for name in ("jobs", "jobs/bell", "jobs/block", "jobs/cutter", "jobs/later", "jobs/piece"))
 NUMBER = "!*end && number <= most"
 SHARED, MUTABLE = "core::slice::from_raw_parts(first, len)", "core::slice::from_raw_parts_mut(first, len)"
 BUFFERS = "veth takes each frame at once, so that the buffer for sending never fills"
@@ -115,6 +117,27 @@ FAULTS = [
     Fault(REASONS, "no reason", "self.reasons.last.take()", "None::<Error>"),
     Fault(REASONS, "a reason of the system", "error.raw_os_error().is_none()", "true"),
     Fault(REASONS, "each file after the signal", "self.ending.has_cut()", "false"),
+    Fault(ENDING, "the bell is not heard", "ends[1].any() == Some(true)", "false"),
+    Fault(JOBS, "more packets than are asked for", "piece.chosen() > left", "false"),
+    Fault(JOBS, "a fault after the last packet that is asked for", "fault.filter(|_| !self.is_done())", "fault"),
+    Fault(JOBS, "lines that are not written before a fault", "self.write_all()?;", "", "self.write_all()?;\n        match fault"),
+    Fault(JOBS, "skipped packets of one piece", "self.counts.skipped.saturating_add(made.counts.skipped)", "made.counts.skipped"),
+    Fault(JOBS, "undecided packets of one piece", "self.counts.undecided.saturating_add(made.counts.undecided)", "made.counts.undecided"),
+    Fault(JOBS, "all are accepted", "made.verdict == Verdict::AllAccepted", "true"),
+    Fault(JOBS, "totals of each file", "self.options.before.is_none()", "true"),
+    Fault(JOBS, "a read that fails is the end", "block.is_read", "true", "Some(block) if block.is_read => return"),
+    Fault(JOBS, "bytes after a read that fails", "self.crew.forget_blocks();", ""),
+    Fault(BELL, "nobody rings", "let _ = (&self.rope).write(&[0]);", ""),
+    Fault(BELL, "it is rung once", "heard.is_rung.store(false, Ordering::SeqCst);", ""),
+    Fault(BLOCK, "bytes are left from the begin on", "may_leave", "true", "if may_leave {"),
+    Fault(CUTTER, "a wrong guess is taken", "units.start == self.cut", "true"),
+    Fault(CUTTER, "packets of one piece", "mem::replace(&mut self.before, self.packets)", "self.before"),
+    Fault(CUTTER, "the interfaces of the begin", "mem::replace(&mut self.begin, self.reader.clone())", "self.begin.clone()"),
+    Fault(CUTTER, "offsets without what was found", "found.end - found.start", "0"),
+    Fault(CUTTER, "the end of a unit", "self.cut == self.end", "true"),
+    Fault(LATER, "reads into other memory are left", "Some((room.as_ptr(), room.len()))", "ASKED.get()", "ASKED.get() != Some((room.as_ptr(), room.len()))"),
+    Fault(LATER, "the file is not moved back", "let _ = (&*self.file).seek(SeekFrom::Start(self.place));", ""),
+    Fault(PIECE, "packets after the last one", "self.made.counts.left == Some(0)", "false"),
     Fault(CAPTURE_MAIN, "nothing is said of a signal", "ending.has_cut()", "false"),
     Fault(CAPTURE_MAIN, "counts that are lost", "output.is_some()", "false", "if output.is_some() {"),
     Fault(COPIES, "permissions of a new file", "let _ = part.file.set_permissions(found.permissions());", ""),
