@@ -31,7 +31,7 @@ from formats import examples
 from programs import count, on_a_full_disk, run, run_apart, run_until_a_fault, without_memory
 
 USAGE = ("usage: ether_capture [[--plain | --format lines|brief|json | --fields COLUMNS [--header] | --stats [[--fields COLUMNS] [--format json] | --by COLUMNS]] [--limit N] [--status-on-fault yes|no] | --write [-w COPY] [--cut-to-headers | --pop-vlan | --push-vlan TPID:ID | --set-vlan A:B]] "
-         "[--select EXPR [--undecided keep|drop]] [-c N] [--progress] [-r FILE | FILE..]\n")
+         "[--select EXPR [--undecided keep|drop]] [-c N] [--progress] [--jobs N] [-r FILE | FILE..]\n")
 
 
 @dataclass
@@ -52,6 +52,9 @@ UNEQUAL[44] = 0x18
 CASES = [
     Case("a classic capture", [], CLASSIC, CLASSIC_LINES, 1),
     Case("its walks alone", ["--plain"], CLASSIC, plain(CLASSIC_LINES), 1),
+    Case("threads", ["--jobs", "4"], CLASSIC, CLASSIC_LINES, 1),
+    Case("more threads than there can be", ["--plain", "--jobs=4294967295"], CLASSIC, plain(CLASSIC_LINES), 1),
+    Case("one thread", ["--jobs", "1", "-c", "1"], CLASSIC, FIRST_LINES + "total frames 1 skipped 0\n", 1),
     Case("faults that are a failure", ["--status-on-fault", "yes"], CLASSIC, CLASSIC_LINES, 1),
     Case("faults that are none", ["--status-on-fault", "no"], CLASSIC, CLASSIC_LINES, 0),
     Case("walks whose faults are none", ["--plain", "--status-on-fault=no"], CLASSIC, plain(CLASSIC_LINES), 0),
@@ -311,6 +314,7 @@ def surplus(name):
 
 EXPECTED = {
     "-c": "a number from 1 to 4294967295",
+    "--jobs": "a number from 1 to 4294967295",
     "--limit": "a number up to 4294967295",
     "--format": "lines, brief or json",
     "--fields": "at most 32 columns, as vlan.vid,eth.src",
@@ -329,6 +333,10 @@ WRONG = [
     ("a number that is none", ["-c", "x"], expected("-c", "x")),
     ("a number of packets of more than 32 bits", ["-c", "4294967296"], expected("-c", "4294967296")),
     ("two numbers of packets", ["-c", "1", "-c", "2"], TWICE),
+    ("no number of threads", ["--jobs"], missing("--jobs")),
+    ("no threads", ["--jobs", "0"], expected("--jobs", "0")),
+    ("threads that are no number", ["--jobs", "all"], expected("--jobs", "all")),
+    ("two numbers of threads", ["--jobs", "2", "--jobs", "2"], TWICE),
     ("no limit", ["--limit"], missing("--limit")),
     ("a limit that is none", ["--limit", "x"], expected("--limit", "x")),
     ("a limit below zero", ["--limit", "-1"], unknown("-1")),

@@ -120,7 +120,7 @@ FAULTS = [
     Fault(ENDING, "the bell is not heard", "ends[1].any() == Some(true)", "false"),
     Fault(JOBS, "more packets than are asked for", "piece.chosen() > left", "false"),
     Fault(JOBS, "a fault after the last packet that is asked for", "fault.filter(|_| !self.is_done())", "fault"),
-    Fault(JOBS, "lines that are not written before a fault", "self.write_all()?;", "", "self.write_all()?;\n        match fault"),
+    Fault(JOBS, "lines that are not written before a fault", "self.write_all()?;", ""),
     Fault(JOBS, "skipped packets of one piece", "self.counts.skipped.saturating_add(made.counts.skipped)", "made.counts.skipped"),
     Fault(JOBS, "undecided packets of one piece", "self.counts.undecided.saturating_add(made.counts.undecided)", "made.counts.undecided"),
     Fault(JOBS, "all are accepted", "made.verdict == Verdict::AllAccepted", "true"),
