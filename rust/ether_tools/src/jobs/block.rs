@@ -6,10 +6,10 @@ use crate::ether_text::{InputFault, Source};
 use etherpeel::ether_pcap::{CaptureReader, CaptureUnit, CapturedPacket};
 
 /// How many bytes are read at once.
-const ROOM: usize = 262_144;
+const ROOM: usize = 98_304;
 
 /// How many bytes of a unit that began before a block have room before it.
-const FRONT: usize = 65_536;
+const FRONT: usize = 16_384;
 
 /// How many records have to follow each other.
 const RECORDS: usize = 4;
