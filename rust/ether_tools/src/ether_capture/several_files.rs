@@ -124,7 +124,9 @@ fn read_files<C: Captures, R: Source, W: Sink, M: LineSink>(
         }
         task.count = tally.count();
         task.form = Form::Lines(options.after(tally.packets));
-        let (end, counts) = read_file(&task, jobs, name, alloc, captures, reader, writer, messages)?;
+        let (end, counts) = read_file(
+            &task, jobs, name, alloc, captures, reader, writer, messages,
+        )?;
         tally = tally.with(counts, &end);
     }
     Ok(tally)
