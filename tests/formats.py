@@ -12,15 +12,15 @@ import tempfile
 from functools import partial
 from shutil import which
 
-from made_captures import CLASSIC, INPUT, SECTIONS, SIX, WITH_FCS, block, classic, cooked, interface, joined, record_is_cut
+from made_captures import CLASSIC, ETHERNET, INPUT, SECTION_HEADER, SECTIONS, SIX, WITH_FCS, block, classic, cooked, interface, joined, record_is_cut
 from programs import run, run_apart
 
 JSON, BRIEF = ["--format", "json"], ["--format", "brief"]
 BROADCAST, STATION = "ff:ff:ff:ff:ff:ff", "3a:ee:b6:2f:f6:d7"
 
 
-def packet(number, time, link, captured, original, headers, **end):
-    return {"number": number, "time": time, "link": link, "captured": captured, "original": original, "headers": headers, **end}
+def packet(number, time, link, captured, original, headers, interface=None, **end):
+    return {"number": number, "time": time, "link": link, "captured": captured, "original": original, "interface": interface, "headers": headers, **end}
 
 
 def placed(name, start, end, payload_end, closed=False, **members):
@@ -58,14 +58,14 @@ PACKETS = [
             eth(16, "02:00:00:00:00:01", "02:00:00:00:00:02", 0x88B5)], rest=rest(14, 16, "ether_type", 0x88B5)),
     ]),
     ("sections", SECTIONS, 1, [
-        packet(1, "2023-11-14T22:13:20.123456000Z", 1, 14, 46, [eth(14, BROADCAST, STATION, 0x8100)],
+        packet(1, "2023-11-14T22:13:20.123456000Z", 1, 14, 46, [eth(14, BROADCAST, STATION, 0x8100)], interface=0,
                fault=fault(14, "length", 4, 0, "slice")),
         packet(2, "2023-11-14T22:13:20.123456789Z", 113, 17, 17, [
             placed("sll", 0, 16, 17, packet_type=4, hw_type=1, addr_len=6, addr="02:00:00:00:00:01", protocol=0x0800)],
-               rest=rest(16, 17, "ether_type", 0x0800)),
-        packet(3, None, 1, 18, 18, [eth(18, BROADCAST, STATION, 0x8100), vlan(14, 18, 5, 1, 291, 0x0800)],
+               interface=1, rest=rest(16, 17, "ether_type", 0x0800)),
+        packet(3, None, 1, 18, 18, [eth(18, BROADCAST, STATION, 0x8100), vlan(14, 18, 5, 1, 291, 0x0800)], interface=0,
                rest=rest(18, 18, "ether_type", 0x0800)),
-        packet(4, "1970-01-01T00:00:00.000001000Z", 101, 1, 1, [], rest=rest(0, 1, "skipped")),
+        packet(4, "1970-01-01T00:00:00.000001000Z", 101, 1, 1, [], interface=0, rest=rest(0, 1, "skipped")),
     ]),
     # RFC 826: who has 10.0.0.2, tell 10.0.0.1; and an answer of a protocol whose addresses have two bytes
     ("ARP", classic(joined("ffffffffffff 020000000001 0806 0001 0800 06 04 0001 020000000001 0a000001 000000000000 0a000002"),
@@ -194,7 +194,7 @@ BRIEF_ENDS = [
 # The example of `write_packet`: 14 of 60 bytes, captured a microsecond after a full second.
 DOCUMENTED = joined("a1b23c4d 0002 0004 00000000 00000000 00040000 00000001", "6553f100 000003e8 0000000e 0000003c", "ffffffffffff 020000000001 0800")
 DOCUMENTED_LINE = (
-    '{"number":1,"time":"2023-11-14T22:13:20.000001000Z","link":1,"captured":14,"original":60,"headers":[{"header":"eth",'
+    '{"number":1,"time":"2023-11-14T22:13:20.000001000Z","link":1,"captured":14,"original":60,"interface":null,"headers":[{"header":"eth",'
     '"start":0,"end":14,"payload_end":14,"closed":false,"dst":"ff:ff:ff:ff:ff:ff","src":"02:00:00:00:00:01","type":2048,'
     '"fcs":null}],"rest":{"start":14,"end":14,"kind":"ether_type","type":2048}}\n')
 
@@ -233,7 +233,7 @@ PROTOCOLS = {"type", "pro", "protocol"}  # columns in which a number is spelled 
 
 def columns_of(packet):
     """All columns of a packet, by hand from its members: each section with its members' values, and commas between those of several headers."""
-    sections = [("frame", {it: packet[it] for it in ("number", "time", "link", "captured", "original")})]
+    sections = [("frame", {it: packet[it] for it in ("number", "time", "link", "captured", "original", "interface")})]
     for it in packet["headers"]:
         sections += [(it["header"], it), ("headers", {name: it[name] for name in ("header", "start", "end", "payload_end", "closed")})]
     sections += [(name, packet[name]) for name in ("rest", "fault") if name in packet]
@@ -423,6 +423,19 @@ def schema(program):
         path = os.path.join(os.path.dirname(os.path.dirname(os.path.abspath(__file__))), "docs", "packet.schema.json")
         done = subprocess.run([PYTHON, "-c", SCHEMA, path, file.name], capture_output=True, text=True, check=False)
     return [("JSON with its schema", (done.stdout.split(), done.stderr), ([str(packets), "0", "False"], ""))]
+
+
+def interfaces(program):
+    """The numbers of the interfaces of 200 drawn packets, one of three each, are those of tshark."""
+    draw = random.Random(1)
+    wanted = [str(draw.randrange(3)) for _ in range(200)]
+    packets = [block(6, f"0{it}000000", "00000000 00000000", "14000000 14000000", "020000000001 020000000002 88b5 010203040506") for it in wanted]
+    with tempfile.NamedTemporaryFile(suffix=".pcapng") as file:
+        file.write(b"".join([SECTION_HEADER, *[ETHERNET] * 3, *packets]))
+        file.flush()
+        ours, theirs = (subprocess.run([*words, file.name], capture_output=True, text=True, check=False).stdout.splitlines()
+                        for words in ([program, "--fields", "frame.interface"], ["tshark", "-n", "-T", "fields", "-e", "frame.interface_id", "-r"]))
+    return [("interfaces", ours, wanted), ("interfaces by tshark", theirs, wanted)]
 
 
 def readers(program):

@@ -136,6 +136,7 @@ frame_rows =
     ∷ computed (codes "link") (codes "Link type") kind.LinkType
     ∷ computed (codes "captured") (codes "Captured length") kind.Number
     ∷ computed (codes "original") (codes "Original length") kind.Number
+    ∷ computed (codes "interface") (codes "Interface ID") kind.Number
     ∷ []
 
 -- each header: its name and its place

@@ -111,11 +111,11 @@ abbrev pub rest_values : (start finish : ℕ) → (kind : List ℕ) → (announc
 rest_values start finish kind announced =
     Some (Number start) ∷ Some (Number finish) ∷ Some (Word kind) ∷ Some announced ∷ []
 
--- the packet itself: its number and its time, link type and lengths (pcapng, 4.3)
+-- the packet itself: its number and its time, link type and lengths, and the number of its interface (pcapng, 4.3)
 abbrev pub packet_values : (number : ℕ) → PacketValue → Option Moment → List (Option Value)
 packet_values number p moment =
     Some (Number number) ∷ Some (if_some Time moment) ∷ Some (Number p.link_type)
-    ∷ Some (Number (length p.packet)) ∷ Some (Number p.original_len) ∷ []
+    ∷ Some (Number (length p.packet)) ∷ Some (Number p.original_len) ∷ Some (if_some Number p.interface) ∷ []
 
 abbrev pub packet_members : (number : ℕ) → PacketValue → Option Moment → List Member
 packet_members number p moment = members frame_rows (packet_values number p moment)

@@ -49,7 +49,7 @@ fn member<'a>(field: &Field, value: Option<Value<'a>>) -> Member<'a>
 
 /// The members of a packet.
 #[inline(always)]
-pub(crate) fn packet<'a>(number: usize, packet: &CapturedPacket<'_>) -> [Member<'a>; 5]
+pub(crate) fn packet<'a>(number: usize, packet: &CapturedPacket<'_>) -> [Member<'a>; 6]
     ensures { HasPacketMembers number (captured_packet_view packet.now) (map member_view result) }
 {
     [
@@ -58,6 +58,7 @@ pub(crate) fn packet<'a>(number: usize, packet: &CapturedPacket<'_>) -> [Member<
         member(&rows::FRAME[2], packet_value(number, packet, 2)),
         member(&rows::FRAME[3], packet_value(number, packet, 3)),
         member(&rows::FRAME[4], packet_value(number, packet, 4)),
+        member(&rows::FRAME[5], packet_value(number, packet, 5)),
     ]
 }
 

@@ -231,6 +231,7 @@
 //!     ∷ computed (codes "link") (codes "Link type") kind.LinkType
 //!     ∷ computed (codes "captured") (codes "Captured length") kind.Number
 //!     ∷ computed (codes "original") (codes "Original length") kind.Number
+//!     ∷ computed (codes "interface") (codes "Interface ID") kind.Number
 //!     ∷ []
 //! ```
 //!

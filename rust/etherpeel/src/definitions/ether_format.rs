@@ -366,13 +366,13 @@
 //!
 //! ## `packet_values`
 //!
-//! The packet itself: its number and its time, link type and lengths (pcapng, 4.3).
+//! The packet itself: its number and its time, link type and lengths, and the number of its interface (pcapng, 4.3).
 //!
 //! ```text
 //! abbrev pub packet_values : (number : ℕ) → PacketValue → Option Moment → List (Option Value)
 //! packet_values number p moment =
 //!     Some (Number number) ∷ Some (if_some Time moment) ∷ Some (Number p.link_type)
-//!     ∷ Some (Number (length p.packet)) ∷ Some (Number p.original_len) ∷ []
+//!     ∷ Some (Number (length p.packet)) ∷ Some (Number p.original_len) ∷ Some (if_some Number p.interface) ∷ []
 //! ```
 //!
 //! Uses: [`PacketValue`](crate::definitions::ether_pcap#def.PacketValue), [`Value`](#def.Members.Value), [`Number`](#def.Members.Value), [`if_some`](#def.if_some), [`Time`](#def.Members.Value)

@@ -31,13 +31,14 @@ fn member<'a>(field: &Field, value: Option<Value<'a>>) -> Member<'a> {
 
 /// The members of a packet.
 #[inline(always)]
-pub(in crate::ether_format) fn packet<'a>(number: usize, packet: &CapturedPacket<'_>) -> [Member<'a>; 5] {
+pub(in crate::ether_format) fn packet<'a>(number: usize, packet: &CapturedPacket<'_>) -> [Member<'a>; 6] {
     [
         member(&rows::FRAME[0], packet_value(number, packet, 0)),
         member(&rows::FRAME[1], packet_value(number, packet, 1)),
         member(&rows::FRAME[2], packet_value(number, packet, 2)),
         member(&rows::FRAME[3], packet_value(number, packet, 3)),
         member(&rows::FRAME[4], packet_value(number, packet, 4)),
+        member(&rows::FRAME[5], packet_value(number, packet, 5)),
     ]
 }
 

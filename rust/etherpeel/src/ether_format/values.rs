@@ -28,7 +28,17 @@ pub(in crate::ether_format) fn packet_value<'a>(
         2 => Some(Value::Number(u64::from(packet.link_type.0))),
         3 => Some(Value::Number(packet.packet.len() as u64)),
         4 => Some(Value::Number(u64::from(packet.original_len))),
+        5 => Some(interface_value(packet.interface)),
         _ => None,
+    }
+}
+
+/// The value of the number of an interface.
+#[inline(always)]
+fn interface_value<'a>(interface: Option<u32>) -> Value<'a> {
+    match interface {
+        Some(interface) => Value::Number(u64::from(interface)),
+        None => Value::Nothing,
     }
 }
 

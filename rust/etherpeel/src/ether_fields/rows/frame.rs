@@ -4,7 +4,7 @@ use crate::ether_fields::field::Field;
 use crate::ether_fields::kind::Kind;
 
 /// The fields of the section `frame`, in order.
-pub static FRAME: [Field; 5] = [
+pub static FRAME: [Field; 6] = [
     Field {
         name: "number",
         key: "{\"number\":",
@@ -58,6 +58,18 @@ pub static FRAME: [Field; 5] = [
         key: ",\"original\":",
         column: "frame.original",
         title: "Original length",
+        abbreviation: "",
+        kind: Kind::Number,
+        extent: Extent::Computed,
+        number: 0,
+        symbol: "",
+        is_member: true,
+    },
+    Field {
+        name: "interface",
+        key: ",\"interface\":",
+        column: "frame.interface",
+        title: "Interface ID",
         abbreviation: "",
         kind: Kind::Number,
         extent: Extent::Computed,
