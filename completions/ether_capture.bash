@@ -50,7 +50,7 @@ _ether_capture() {
                     return 0
                     ;;
                 --format)
-                    COMPREPLY=($(compgen -W "lines brief json" -- "${cur}"))
+                    COMPREPLY=($(compgen -W "lines brief json csv" -- "${cur}"))
                     return 0
                     ;;
                 --fields)

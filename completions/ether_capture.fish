@@ -4,7 +4,7 @@ complete -c ether_capture -l select -d 'only packets that match EXPR, as \'vlan 
 complete -c ether_capture -l undecided -d 'with --select, keep or drop packets that were cut too short to tell, in place of taking them as they are' -r -f -a "{keep	,drop	}"
 complete -c ether_capture -s c -d 'end with the N-th of these packets, of all files together' -r -f
 complete -c ether_capture -l limit -d 'read N VLAN tags and SecTags of each packet at most' -r -f
-complete -c ether_capture -l format -d 'print lines as ever; or each packet on a line of its own, for the eye or as an object of JSON, without totals' -r -f -a "{lines	,brief	,json	}"
+complete -c ether_capture -l format -d 'print lines as ever; or each packet on a line of its own, for the eye, as an object of JSON or, with --fields, as CSV, without totals' -r -f -a "{lines	,brief	,json	,csv	}"
 complete -c ether_capture -l fields -d 'print the values of COLUMNS, as frame.number,vlan.vid,eth.src, with tabs; more than one value with commas' -r -f
 complete -c ether_capture -l by -d 'with --stats, count by the values of all COLUMNS together, as arp.spa,arp.sha' -r -f
 complete -c ether_capture -l status-on-fault -d 'exit with 1 if headers of a packet are wrong or cut: yes, as ever, or no' -r -f -a "{yes	,no	}"

@@ -30,7 +30,7 @@ from counts import examples as counts
 from formats import examples
 from programs import count, on_a_full_disk, run, run_apart, run_until_a_fault, without_memory
 
-USAGE = ("usage: ether_capture [[--plain | --format lines|brief|json | --fields COLUMNS [--header] | --stats [[--fields COLUMNS] [--format json] | --by COLUMNS]] [--limit N] [--status-on-fault yes|no] | --write [-w COPY] [--cut-to-headers | --pop-vlan | --push-vlan TPID:ID | --set-vlan A:B]] "
+USAGE = ("usage: ether_capture [[--plain | --format lines|brief|json | --fields COLUMNS [--format csv] [--header] | --stats [[--fields COLUMNS] [--format json] | --by COLUMNS]] [--limit N] [--status-on-fault yes|no] | --write [-w COPY] [--cut-to-headers | --pop-vlan | --push-vlan TPID:ID | --set-vlan A:B]] "
          "[--select EXPR [--undecided keep|drop]] [-c N] [--progress] [--jobs N] [-r FILE | FILE..]\n")
 
 
@@ -316,7 +316,7 @@ EXPECTED = {
     "-c": "a number from 1 to 4294967295",
     "--jobs": "a number from 1 to 4294967295",
     "--limit": "a number up to 4294967295",
-    "--format": "lines, brief or json",
+    "--format": "lines, brief, json or csv",
     "--fields": "at most 32 columns, as vlan.vid,eth.src",
     "--by": "at most 32 columns, as vlan.vid,eth.src",
     "--status-on-fault": "yes or no",
@@ -370,6 +370,15 @@ WRONG = [
     ("a line of names without columns, of a file", ["--header", "a.pcap"], lacking("--header", "--fields")),
     ("a line of names without columns, and a copy", ["--header", "--write"], lacking("--header", "--fields")),
     ("columns and JSON", ["--fields", "vlan.vid", "--format", "json"], CLASH),
+    ("columns for the eye", ["--fields", "vlan.vid", "--format", "brief"], CLASH),
+    ("CSV without columns", ["--format", "csv"], lacking("--format csv", "--fields")),
+    ("CSV without columns, and their names", ["--format", "csv", "--header"], lacking("--header", "--fields")),
+    ("CSV without columns, and a copy", ["--format", "csv", "--write"], lacking("--format csv", "--fields")),
+    ("CSV and a copy", ["--format", "csv", "--fields", "vlan.vid", "--write"], CLASH),
+    ("plain CSV", ["--format", "csv", "--fields", "vlan.vid", "--plain"], CLASH),
+    ("counts as CSV", ["--stats", "--format", "csv"], CLASH),
+    ("counts of columns as CSV", ["--stats", "--format", "csv", "--fields", "vlan.vid"], CLASH),
+    ("columns together as CSV", ["--stats", "--format", "csv", "--by", "vlan.vid"], CLASH),
     ("plain columns", ["--fields", "vlan.vid", "--plain"], CLASH),
     ("columns and a copy", ["--fields", "vlan.vid", "--write"], CLASH),
     ("plain counts", ["--stats", "--plain"], CLASH),

@@ -2,7 +2,9 @@
 
 `ether_capture.py` runs `examples`, `other_programs.py` runs `readers` and `llc_lengths`.
 """
+import csv
 import datetime
+import io
 import json
 import os
 import random
@@ -228,6 +230,8 @@ ROWS = [
      ["1\t2023-11-14T22:13:20.123456000Z\t\t\t", "113\t2023-11-14T22:13:20.123456789Z\t02:00:00:00:00:01\tether_type\t16", "1\t\t\tether_type\t18",
       "101\t1970-01-01T00:00:00.000001000Z\t\tskipped\t0"]),
 ]
+# five VLAN tags in one frame, and none in the next
+MANY_TAGS = classic(joined("ffffffffffff 020000000001", *(f"8100 000{it}" for it in range(1, 6)), "0800"), joined("ffffffffffff 020000000001 0800"))
 PROTOCOLS = {"type", "pro", "protocol"}  # columns in which a number is spelled as an ether type
 
 
@@ -267,6 +271,19 @@ def objects(program, words, capture):
     return [json.loads(line) for line in text.splitlines()], status
 
 
+def csv_bytes(program, words, capture):
+    """What is printed as CSV, byte for byte, and the status."""
+    done = subprocess.run([program, "--format", "csv", *words], input=capture, capture_output=True, check=False)
+    return done.stdout.decode(), done.returncode
+
+
+def csv_records(program, words, capture):
+    """The records that Python reads, and the status; each must end with CR LF."""
+    text, status = csv_bytes(program, words, capture)
+    ends = {it[-2:] for it in text.splitlines(keepends=True)} - {"\r\n"}
+    return [*csv.reader(io.StringIO(text, newline=""), strict=True), *ends], status
+
+
 def members(program, words, capture, name):
     """This member of each object."""
     return [it[name] for it in objects(program, words, capture)[0]]
@@ -304,6 +321,9 @@ def examples(program):
         yield f"{name} in columns", partial(run, program, ["--fields", columns], capture), (lines, status)
         heading = columns.replace(",", "\t") + "\n"
         yield f"{name} in columns, with their names", partial(run, program, ["--header", "--fields", columns], capture), (heading + lines, status)
+        cells = [it.split("\t") for it in rows]
+        yield f"{name} as CSV", partial(csv_records, program, ["--fields", columns], capture), (cells, status)
+        yield f"{name} as CSV, with names", partial(csv_records, program, ["--header", "--fields", columns], capture), ([columns.split(","), *cells], status)
     for name, capture, status, packets in PACKETS:
         found = [columns_of(it) for it in packets]
         names = sorted({column for it in found for column in it})
@@ -322,6 +342,12 @@ def examples(program):
         ("JSON of no packet", partial(run, program, JSON, CLASSIC[:24]), ("", 0)),
         ("names of columns without a packet", partial(run, program, ["--header", "--fields", "vlan.vid,eth.src"], CLASSIC[:24]),
          ("vlan.vid\teth.src\n", 0)),
+        ("CSV, byte for byte", partial(csv_bytes, program, ["--header", "--fields", "frame.number,eth.src,vlan.vid,rest.type"], ROWS[0][1]),
+         ('frame.number,eth.src,vlan.vid,rest.type\r\n1,02:00:00:00:00:01,5,0x0800\r\n2,02:00:00:00:00:01,"5,100",0x86DD\r\n', 0)),
+        ("CSV of more than four headers", partial(csv_bytes, program, ["--fields", "vlan.vid,eth.type,headers.header,arp.op"], MANY_TAGS),
+         ('"1,2,3,4,5",0x8100,"eth,vlan,vlan,vlan,vlan,vlan",\r\n,0x0800,eth,\r\n', 0)),
+        ("names of columns as CSV without a packet", partial(csv_bytes, program, ["--header", "--fields", "vlan.vid,eth.src"], CLASSIC[:24]),
+         ("vlan.vid,eth.src\r\n", 0)),
         ("columns of a filter", partial(run, program, ["--fields", "frame.number", "--select", "not refused"], CLASSIC), ("2\n", 0)),
         ("32 columns", partial(run, program, ["--fields", ",".join(["frame.link"] * 32)], CLASSIC), (("\t".join(["1"] * 32) + "\n") * 2, 1)),
         ("JSON of six", partial(members, program, JSON, classic(*SIX), "number"), [1, 2, 3, 4, 5, 6]),
@@ -390,6 +416,11 @@ def as_tshark(packet):
             of(arp, "tha"), of(arp, "tpa"), ",".join(f"0x{it['an']:02x}" for it in macsec), of(macsec, "pn"), of(macsec, "e"), of(macsec, "c")]
 
 
+def all_tags(packet):
+    """The VLAN identifiers of a packet."""
+    return ",".join(str(it["vid"]) for it in packet["headers"] if it["header"] == "vlan")
+
+
 def llc_lengths(program):
     """Lengths of IEEE 802.3, and the addresses of LLC after them: what a line for the eye says of 200 drawn frames is what `tcpdump -e` says."""
     draw = random.Random(802_3)
@@ -454,6 +485,10 @@ def readers(program):
         theirs = ["\t".join(it[at] for at in (0, 1, 4, 5, 10, 12, 16)) for it in rows]  # equal to the rows of tshark, below
         tried = [("20,000 objects of JSON", len(packets), 20_000), ("20,000 rows of columns", ours, theirs)]
         words = [word for it in FIELDS for word in ("-e", it)]
+        # tshark encloses every field, so what Python reads is compared
+        columns = ["frame.number", "frame.captured", "frame.original", "eth.dst", "eth.src", "arp.spa", "macsec.pn", "vlan.vid"]
+        records, _ = csv_records(program, ["--fields", ",".join(columns)], capture)
+        tried.append(("20,000 records of CSV", records, [[*(row[at] for at in (0, 1, 2, 4, 5, 12, 16)), all_tags(it)] for row, it in zip(rows, packets)]))
         readers_of = {
             "tshark": (["tshark", "-n", "-r", pcap.name, "-T", "fields", *words],
                        lambda text: [dict(zip(FIELDS, line.split("\t"))) for line in text.splitlines()],

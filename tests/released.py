@@ -200,7 +200,7 @@ def completed(program, *words):
 
 
 def check_completions():
-    values, modes = ["lines", "brief", "json"], {"eth", "fcs", "sll", "type", "feed", "limit"}
+    values, modes = ["lines", "brief", "json", "csv"], {"eth", "fcs", "sll", "type", "feed", "limit"}
     check("--format in bash", completed("ether_capture", "--format", "") == values, completed("ether_capture", "--format", ""))
     check("--undecided in bash", completed("ether_capture", "--undecided", "k") == ["keep"])
     check("ether_tool in bash", modes <= {*completed("ether_tool", "")}, completed("ether_tool", ""))

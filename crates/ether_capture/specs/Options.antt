@@ -14,9 +14,11 @@ use Rattle.ether_filter.specs.declared.filter_error.FilterError.{FilterError}
 use Rattle.ether_content.specs.Editing.{EditValue, CutToHeaders, PopVlan, PushVlan, SetVlan}
 use Rattle.ether_content.specs.EditingViews.{edit_view}
 use Rattle.ether_format.specs.declared.format.Format.{Format}
-use Rattle.ether_format.specs.declared.format.Format.TheVariants.{Brief, Fields, Json}
+use Rattle.ether_format.specs.declared.format.Format.TheVariants.{Brief, Csv, Fields, Json}
 use Rattle.ether_format.specs.Columns.{ColumnValue, columns_view, common_columns, original_column}
 use Rattle.ether_format.specs.declared.columns.Columns.{Columns}
+use Rattle.ether_stream.specs.declared.option_values.FormatName.{FormatName}
+use Rattle.ether_stream.specs.declared.option_values.FormatName.TheVariants as names
 use Rattle.ether_stream.specs.OptionValues.{AreFields, AreWrongFields, IsCount, IsFormat, IsIfAny, IsLimit, IsOneEdit, IsSelection, IsWrongEdit, MeansAnswer, MeansUndecided}
 use Rattle.ether_stream.specs.Usage.{IsWrongValue}
 use Rattle.ether_pcap.specs.CopiedUnits.{ModeValue, Exact, Changed}
@@ -75,11 +77,11 @@ request_view (requests.List listing) = Lists (listing_view listing)
 request_view requests.Help = Help
 request_view requests.Version = Version
 
--- the columns whose names are written first
-abbrev pub columns_in : Heading → Option Columns
-columns_in Absent = None
-columns_in (Line columns) = Some columns
-columns_in (Statistics format columns) = Some columns
+-- the format of the line of names that is written first
+abbrev pub format_in : Heading → Option Format
+format_in Absent = None
+format_in (Line format) = Some format
+format_in (Statistics counting columns) = Some (Fields columns)
 
 -- how counts are written
 abbrev pub statistics_in : Heading → Option StatisticsFormat
@@ -121,7 +123,7 @@ pub record AskedValue : Type 0 where
   pub count : Option ℕ
   pub jobs : Option ℕ
   pub limit : Option ℕ
-  pub format : Option Format
+  pub format : Option FormatName
   pub fields : Option Columns
   pub by : Option Columns
   pub header : Bool
@@ -199,46 +201,59 @@ is_any (name ∷ names) = true
 abbrev pub columns_asked : AskedValue → Option Columns
 columns_asked a = if a.stats then a.counted else a.fields
 
--- the format that is asked for: columns are one, too
+abbrev pub is_csv : Option FormatName → Bool
+is_csv (Some names.Csv) = true
+is_csv name = false
+
+-- a format of this name that has no columns
+abbrev pub format_named : Option FormatName → Option Format
+format_named (Some names.Json) = Some Json
+format_named (Some names.Brief) = Some Brief
+format_named name = None
+
+-- the format that is asked for: columns are one, as CSV or with tabs
 abbrev pub format_asked : AskedValue → Option Format
-format_asked a = option_map_or (λ columns. Some (Fields columns)) (columns_asked a) a.format
+format_asked a =
+    option_map_or (λ columns. Some (if is_csv a.format then Csv columns else Fields columns)) (columns_asked a)
+    (format_named a.format)
 
 -- counts of the texts of columns: of all columns together; or of each, as lines of fields or of JSON
-abbrev pub statistics_of : (joint : Bool) → (format : Option Format) → (columns : Option Columns) → Heading
+abbrev pub statistics_of : (joint : Bool) → (format : Option FormatName) → (columns : Option Columns) → Heading
 statistics_of joint format None = Absent
 statistics_of true format (Some columns) = Statistics counts.Joint columns
-statistics_of false (Some Json) (Some columns) = Statistics counts.Json columns
+statistics_of false (Some names.Json) (Some columns) = Statistics counts.Json columns
 statistics_of false format (Some columns) = Statistics counts.Text columns
 
 -- a line of their names
-abbrev pub line_of : (columns : Option Columns) → Heading
-line_of (Some columns) = Line columns
+abbrev pub line_of : Option Format → Heading
+line_of (Some format) = Line format
 line_of None = Absent
 
 -- what is made of columns
 abbrev pub heading_of : AskedValue → Heading
 heading_of a =
     if a.stats then statistics_of (is_some a.by) a.format a.counted
-    else (if a.header then line_of a.fields else Absent)
+    else (if a.header then line_of (format_asked a) else Absent)
 
-abbrev pub is_brief : Option Format → Bool
-is_brief (Some Brief) = true
-is_brief format = false
+abbrev pub is_brief : Option FormatName → Bool
+is_brief (Some names.Brief) = true
+is_brief name = false
 
-abbrev pub is_json : Option Format → Bool
-is_json (Some Json) = true
-is_json format = false
+abbrev pub is_json : Option FormatName → Bool
+is_json (Some names.Json) = true
+is_json name = false
 
 -- columns are counted together, and others by themselves, or as JSON
 abbrev pub clashes_with_by : AskedValue → Bool
 clashes_with_by a = is_some a.by && (is_some a.fields || is_json a.format)
 
--- columns are no other format; counts have no heading and are not brief, and their columns are 32 at most with the
--- length of the packet
+-- columns are neither brief nor JSON; counts have no heading and are neither brief nor CSV, and their columns are 32 at
+-- most with the length of the packet
 abbrev pub clashes_in_columns : AskedValue → Bool
 clashes_in_columns a =
-    if a.stats then a.header || (not (is_some a.counted) || (is_brief a.format || clashes_with_by a))
-    else is_some a.format && is_some a.fields
+    if a.stats
+    then a.header || (not (is_some a.counted) || (is_brief a.format || (is_csv a.format || clashes_with_by a)))
+    else (is_brief a.format || is_json a.format) && is_some a.fields
 
 -- no copy is plain, or has a limit or a format; lines alone are plain
 abbrev pub clashes_with_copy : AskedValue → Bool
@@ -256,14 +271,15 @@ edit_option PopVlan = dependent.PopVlan
 edit_option (PushVlan tpid id) = dependent.PushVlan
 edit_option (SetVlan from to) = dependent.SetVlan
 
--- an option is there without the one that it needs: no packet is undecided without a filter, names are those of
--- columns, columns are counted together only if some are, and only a copy is edited
+-- an option is there without the one that it needs: no packet is undecided without a filter, names and CSV are those
+-- of columns, columns are counted together only if some are, and only a copy is edited
 abbrev pub lacking : AskedValue → Option DependentOption
 lacking a =
     if is_some a.undecided && not (is_some a.text) then Some dependent.Undecided
     else (if a.header && (not (is_some a.fields) && not a.stats) then Some dependent.Header
+    else (if is_csv a.format && (not (is_some a.fields) && not a.stats) then Some dependent.Csv
     else (if is_some a.by && not a.stats then Some dependent.By
-    else (if makes_copy a then None else option_map edit_option a.edit)))
+    else (if makes_copy a then None else option_map edit_option a.edit))))
 
 -- the first name
 abbrev pub first_name : List Text → Option Text
@@ -393,7 +409,7 @@ pub data MeansNothing (rows : List Row) : Usage → Type 0 where
       → IsWrongValue value_options.Count (first_of (codes "count") rows) usage → MeansNothing rows usage
   wrong_limit : (usage : Usage) → ((n : Option ℕ) → ¬ (IsIfAny IsLimit (first_of (codes "limit") rows) n))
       → IsWrongValue value_options.Limit (first_of (codes "limit") rows) usage → MeansNothing rows usage
-  wrong_format : (usage : Usage) → ((f : Option Format) → ¬ (IsFormat (first_of (codes "format") rows) f))
+  wrong_format : (usage : Usage) → ((f : Option FormatName) → ¬ (IsFormat (first_of (codes "format") rows) f))
       → IsWrongValue value_options.Format (first_of (codes "format") rows) usage → MeansNothing rows usage
   wrong_fields : (usage : Usage) → ((c : Option Columns) → ¬ (IsIfAny AreFields (first_of (codes "fields") rows) c))
       → AreWrongFields value_options.Fields (first_of (codes "fields") rows) usage → MeansNothing rows usage

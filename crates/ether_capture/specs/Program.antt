@@ -3,7 +3,7 @@ use Rattle.std.specs.Prelude.{◌≡◌, ◌⊎◌, ℕ, List, [], Option, Some,
 use Rattle.std.specs.Vec.Iter.{into_iter_items}
 use Rattle.std.specs.declared.vec.IntoIter.{IntoIter}
 use Rattle.std.specs.Io.KnownBytes.{Appends}
-use Rattle.ether_capture.specs.Options.{RequestValue, Run, Lists, Help, Version, NamesRequest, RefusesWords, columns_in, heading_in, statistics_asked}
+use Rattle.ether_capture.specs.Options.{RequestValue, Run, Lists, Help, Version, NamesRequest, RefusesWords, format_in, heading_in, statistics_asked}
 use Rattle.ether_capture.specs.declared.request.RequestError.{RequestError}
 use Rattle.ether_capture.specs.declared.request.RequestError.TheVariants as reasons
 use Rattle.ether_capture.specs.Copies.{HasRead, IsCopied}
@@ -18,8 +18,8 @@ use Rattle.ether_stream.specs.declared.outcome.RunFault.TheVariants.{Input, Outp
 use Rattle.ether_capture.specs.Journal.{known_if}
 use Rattle.ether_capture.specs.Statistics.{Shows}
 use Rattle.ether_capture.specs.declared.statistics_format.StatisticsFormat.{StatisticsFormat}
-use Rattle.ether_format.specs.Columns.{columns_view, heading_text}
-use Rattle.ether_format.specs.declared.columns.Columns.{Columns}
+use Rattle.ether_format.specs.Texts.{format_heading}
+use Rattle.ether_format.specs.declared.format.Format.{Format}
 
 -- the arguments, with the program's name first, if they can be read
 abbrev pub arguments_of : {A E : Type 0} → Result (IntoIter (String A) A) E → Option (List (List ℕ))
@@ -87,12 +87,12 @@ HasAnswered w Version before after outcomes.Version = after ≡ before
 HasAnswered w request before after outcome = ⊥
 
 -- the line of the names of columns, if it is asked for
-abbrev pub heading_if : Option Columns → List ℕ
+abbrev pub heading_if : Option Format → List ℕ
 heading_if None = []
-heading_if (Some columns) = heading_text (columns_view columns)
+heading_if (Some format) = format_heading format
 
-abbrev pub heading_asked : RequestValue → Option Columns
-heading_asked request = columns_in (heading_in request)
+abbrev pub heading_asked : RequestValue → Option Format
+heading_asked request = format_in (heading_in request)
 
 -- That line was written, and then what is asked for was done. Or the writer failed at the line, and nothing was read,
 -- told or copied.
@@ -100,7 +100,7 @@ pub data HasHeaded (w : World) (request : RequestValue) (before after : Streams)
   headed : (outcome : Outcome) (mid : Option (List ℕ)) → Appends before.output mid (heading_if (heading_asked request))
       → HasAnswered w request (record before { output = mid }) after outcome
       → HasHeaded w request before after outcome
-  failed : (columns : Columns) → heading_asked request ≡ Some columns → w.reading.can_write
+  failed : (format : Format) → heading_asked request ≡ Some format → w.reading.can_write
       → after ≡ record before { output = after.output }
       → HasHeaded w request before after (outcomes.Run (Err Output))
 

@@ -7,7 +7,7 @@ ghost use Rattle.ether_capture.specs.SeveralFiles.{Settles};
 ghost use Rattle.ether_capture.specs.Options.{request_view, statistics_asked};
 ghost use Rattle.ether_capture.specs.World.{keeps, names, reads, streams, world};
 ghost use Rattle.std.specs.Io.KnownBytes.{Appends};
-ghost use Rattle.ether_format.specs.declared.columns.Columns.{Columns as ColumnsValue};
+ghost use Rattle.ether_format.specs.declared.format.Format.{Format as FormatValue};
 ghost use Rattle.std.specs.Prelude.{OnErr, OnOk};
 ghost use Rattle.ether_stream.specs.Task.{task_view};
 ghost use Rattle.ether_capture.specs.Statistics.{is_joint};
@@ -23,7 +23,7 @@ use crate::run_input::run_input;
 use crate::several_files::run_files;
 use crate::statistics::Statistics;
 use crate::statistics_format::StatisticsFormat;
-use ether_format::Columns;
+use ether_format::Format;
 use ether_output::{OutputBuffer, OutputFault, Sink};
 use ether_stream::{LineSink, Outcome, RunFault, Task, is_message, last_line, program_status};
 use ether_text::Source;
@@ -227,11 +227,11 @@ fn write_lines_or_copy<'a, C: Captures, K: Copies, R: Source, W: Sink, M: LineSi
     ensures told { Settles M.Sink.is_flushed messages.old messages.new ⊎ M.Sink.can_fail }
 {
     match request {
-        Request::Run(job) => match write_heading(&job.heading.columns(), writer) {
+        Request::Run(job) => match write_heading(&job.heading.format(), writer) {
             Ok(()) => run_job(&job, alloc, captures, copies, reader, writer),
             Err(OutputFault) => Outcome::Run(Err(RunFault::Output)),
         },
-        Request::List(listing) => match write_heading(&listing.heading.columns(), writer) {
+        Request::List(listing) => match write_heading(&listing.heading.format(), writer) {
             Ok(()) => Outcome::Files(run_files(listing, alloc, captures, reader, writer, messages)),
             Err(OutputFault) => Outcome::Run(Err(RunFault::Output)),
         },
@@ -241,16 +241,16 @@ fn write_lines_or_copy<'a, C: Captures, K: Copies, R: Source, W: Sink, M: LineSi
 }
 
 /// Writes the line of the names of columns, if it is asked for.
-fn write_heading<W: Sink>(heading: &Option<Columns>, writer: &mut W) -> Result<(), OutputFault>
+fn write_heading<W: Sink>(heading: &Option<Format>, writer: &mut W) -> Result<(), OutputFault>
     ensures written { OnOk result (Appends (W.contents writer.old) (W.contents writer.new) (heading_if heading.now)) }
     ensures flushed { OnOk result (Settles W.is_flushed writer.old writer.new) }
-    ensures failed { OnErr result (W.can_fail × ((columns : ColumnsValue) × (heading.now ≡ Some columns))) }
+    ensures failed { OnErr result (W.can_fail × ((format : FormatValue) × (heading.now ≡ Some format))) }
 {
-    let Some(columns) = heading else {
+    let Some(format) = heading else {
         return Ok(());
     };
     let mut out = OutputBuffer::new(writer);
-    columns.write_heading(&mut out);
+    format.write_heading(&mut out);
     out.flush()
 }
 

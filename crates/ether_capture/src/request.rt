@@ -5,7 +5,7 @@ ghost use Rattle.std.specs.Option.{is_some, option_map};
 ghost use Rattle.ether_pcap.specs.CopiedUnits.{copy_mode_view};
 ghost use Rattle.ether_stream.specs.Copying.{growth_if};
 ghost use Rattle.ether_stream.specs.Task.{form_view};
-ghost use Rattle.ether_capture.specs.Options.{AreCountedColumns, Fits, IsFaultOf, IsRequestOf, RefusesAsked, are_several, asked_view, edit_option, excuses, first_columns, is_json, lacking, names_input, names_input_twice, surplus, clashes, clashes_in_columns, clashes_with_by, columns_asked, columns_in, is_brief, line_of, statistics_asked, statistics_in, statistics_of, form_of, format_asked, heading_of, mode_of, options_of, request_view, input_of, makes_copy, named, output_of, selection_of};
+ghost use Rattle.ether_capture.specs.Options.{AreCountedColumns, Fits, IsFaultOf, IsRequestOf, RefusesAsked, are_several, asked_view, edit_option, excuses, first_columns, is_json, lacking, names_input, names_input_twice, surplus, clashes, clashes_in_columns, clashes_with_by, columns_asked, format_in, format_named, is_brief, is_csv, line_of, statistics_asked, statistics_in, statistics_of, form_of, format_asked, heading_of, mode_of, options_of, request_view, input_of, makes_copy, named, output_of, selection_of};
 
 use crate::statistics_format::StatisticsFormat;
 use ether_content::PacketEdit;
@@ -13,7 +13,7 @@ use ether_filter::{Filter, FilterError};
 use ether_format::{Columns, Format};
 use ether_pcap::CopyMode;
 use ether_stream::{
-    DependentOption, Form, LineOptions, Selection, Task, Undecided, Usage, filter_of,
+    DependentOption, Form, FormatName, LineOptions, Selection, Task, Undecided, Usage, filter_of,
 };
 use std::num::NonZeroUsize;
 
@@ -56,8 +56,8 @@ pub enum Request<'a> {
 pub enum Heading {
     /// Rows, if columns are asked for.
     Absent,
-    /// A line of their names, and then rows.
-    Line(Columns),
+    /// A line of their names in this format, and then rows.
+    Line(Format),
     /// Counts of the texts in the rows, whose first column is the length of the packet.
     Statistics(StatisticsFormat, Columns),
 }
@@ -113,7 +113,7 @@ pub(crate) struct Asked<'a> {
     pub(crate) count: Option<NonZeroUsize>,
     pub(crate) jobs: Option<NonZeroUsize>,
     pub(crate) limit: Option<usize>,
-    pub(crate) format: Option<Format>,
+    pub(crate) format: Option<FormatName>,
     pub(crate) fields: Option<Columns>,
     pub(crate) by: Option<Columns>,
     /// The columns whose texts are counted, if that is asked for and there are 32 at most.
@@ -168,6 +168,9 @@ impl<'a> Asked<'a> {
         if self.has_header && self.fields.is_none() && !self.is_counted {
             return Some(DependentOption::Header);
         }
+        if self.is_csv() && self.fields.is_none() && !self.is_counted {
+            return Some(DependentOption::Csv);
+        }
         if self.by.is_some() && !self.is_counted {
             return Some(DependentOption::By);
         }
@@ -212,9 +215,10 @@ impl<'a> Asked<'a> {
             return self.has_header
                 || self.counted.is_none()
                 || self.is_brief()
+                || self.is_csv()
                 || self.clashes_with_by();
         }
-        self.format.is_some() && self.fields.is_some()
+        (self.is_brief() || self.is_json()) && self.fields.is_some()
     }
 
     /// Tests that columns are counted together, and also by themselves or as JSON.
@@ -228,21 +232,28 @@ impl<'a> Asked<'a> {
     fn is_json(&self) -> bool
         ensures { result ≡ is_json self.now.format }
     {
-        matches!(self.format, Some(Format::Json))
+        matches!(self.format, Some(FormatName::Json))
+    }
+
+    /// Tests that CSV is asked for.
+    fn is_csv(&self) -> bool
+        ensures { result ≡ is_csv self.now.format }
+    {
+        matches!(self.format, Some(FormatName::Csv))
     }
 
     /// Tests that lines for the eye are asked for.
     fn is_brief(&self) -> bool
         ensures { result ≡ is_brief self.now.format }
     {
-        matches!(self.format, Some(Format::Brief))
+        matches!(self.format, Some(FormatName::Brief))
     }
 
     /// Tests that another format than lines is asked for.
     fn has_format(&self) -> bool
         ensures { result ≡ is_some (format_asked (asked_view self.now)) }
     {
-        self.format.is_some() || self.columns().is_some()
+        self.format().is_some()
     }
 
     /// The columns of rows, if these are asked for.
@@ -260,8 +271,9 @@ impl<'a> Asked<'a> {
         ensures { result ≡ format_asked (asked_view self.now) }
     {
         match self.columns() {
+            Some(columns) if self.is_csv() => Some(Format::Csv(columns)),
             Some(columns) => Some(Format::Fields(columns)),
-            None => self.format,
+            None => format_named(self.format),
         }
     }
 
@@ -273,7 +285,7 @@ impl<'a> Asked<'a> {
             return statistics_of(self.by.is_some(), &self.format, &self.counted);
         }
         if self.has_header {
-            return line_of(&self.fields);
+            return line_of(&self.format());
         }
         Heading::Absent
     }
@@ -454,13 +466,24 @@ pub(crate) fn first_of(by: Option<Columns>, fields: Option<Columns>) -> Option<C
     }
 }
 
+/// The format of this name, unless it has columns.
+fn format_named(name: Option<FormatName>) -> Option<Format>
+    ensures { result ≡ format_named name }
+{
+    match name {
+        Some(FormatName::Json) => Some(Format::Json),
+        Some(FormatName::Brief) => Some(Format::Brief),
+        Some(FormatName::Csv) | None => None,
+    }
+}
+
 /// Counts of the texts of columns, of each or of all together, in a format.
-fn statistics_of(is_joint: bool, format: &Option<Format>, columns: &Option<Columns>) -> Heading
+fn statistics_of(is_joint: bool, format: &Option<FormatName>, columns: &Option<Columns>) -> Heading
     ensures { result ≡ statistics_of is_joint format.now columns.now }
 {
     match (columns, format) {
         (Some(columns), _) if is_joint => Heading::Statistics(StatisticsFormat::Joint, *columns),
-        (Some(columns), Some(Format::Json)) => {
+        (Some(columns), Some(FormatName::Json)) => {
             Heading::Statistics(StatisticsFormat::Json, *columns)
         }
         (Some(columns), _) => Heading::Statistics(StatisticsFormat::Text, *columns),
@@ -468,12 +491,12 @@ fn statistics_of(is_joint: bool, format: &Option<Format>, columns: &Option<Colum
     }
 }
 
-/// A line of the names of columns.
-fn line_of(columns: &Option<Columns>) -> Heading
-    ensures { result ≡ line_of columns.now }
+/// A line of the names of columns in a format.
+fn line_of(format: &Option<Format>) -> Heading
+    ensures { result ≡ line_of format.now }
 {
-    match columns {
-        Some(columns) => Heading::Line(*columns),
+    match format {
+        Some(format) => Heading::Line(*format),
         None => Heading::Absent,
     }
 }
@@ -493,13 +516,14 @@ pub(crate) fn counted_of(is_counted: bool, fields: &Option<Columns>) -> Option<C
 }
 
 impl Heading {
-    /// The columns whose names are written first, if a line of them is.
-    pub(crate) fn columns(&self) -> Option<Columns>
-        ensures { result ≡ columns_in self.now }
+    /// The format of the line of names, if one is written first.
+    pub(crate) fn format(&self) -> Option<Format>
+        ensures { result ≡ format_in self.now }
     {
         match self {
             Heading::Absent => None,
-            Heading::Line(columns) | Heading::Statistics(_, columns) => Some(*columns),
+            Heading::Line(format) => Some(*format),
+            Heading::Statistics(_, columns) => Some(Format::Fields(*columns)),
         }
     }
 

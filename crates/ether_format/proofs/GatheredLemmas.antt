@@ -1,11 +1,14 @@
 -- What is gathered of a packet for the columns of a row.
-use Rattle.std.proofs.Common.{◌≡◌, ◌⊎◌, inl, inr, ℕ, List, [], ◌∷◌, ◌++◌, length, map, drop, ◌≤◌, Bool, true, false, refl, sym, ap, subst, ◌∙◌, append_assoc, append-nil, arith}
+use Rattle.std.proofs.Common.{◌≡◌, ◌⊎◌, inl, inr, ℕ, List, [], ◌∷◌, ◌++◌, length, map, drop, ◌≤◌, Bool, true, false, Option, refl, sym, ap, subst, ◌∙◌, append_assoc, append-nil, arith}
 use Rattle.std.specs.Prelude.{◌||◌, ◌&&◌, nat_eq}
 use Rattle.std.proofs.lemmas.List.{drop_all, length-append, length-map, map-append}
 use Rattle.std.proofs.lemmas.Bool.{eqb-true}
+use Rattle.ether_pcap.specs.Capture.{PacketValue}
+use Rattle.ether_content.specs.Content.{content_of}
 use Rattle.ether_fields.specs.declared.section.Section.{Section}
 use Rattle.ether_fields.specs.declared.section.Section.TheVariants as sections
 use Rattle.ether_format.specs.declared.column.Column.{Column}
+use Rattle.ether_format.specs.declared.end.End.{End}
 use Rattle.ether_format.specs.declared.found.Found.{Found}
 use Rattle.ether_format.specs.declared.gathered.Gatherer.{Gatherer}
 use Rattle.ether_format.specs.declared.gathered.Sections.{Sections}
@@ -13,7 +16,7 @@ use Rattle.ether_format.specs.Columns.{column_view}
 use Rattle.ether_format.specs.Found.{found_told}
 use Rattle.ether_format.specs.Gathered.{Gathers, GathersIf, shown_values}
 use Rattle.ether_format.specs.GatheredSections.{added_to, has_section, new_gatherer}
-use Rattle.ether_format.specs.Told.{Told, told_section}
+use Rattle.ether_format.specs.Told.{Tells, Told, told_section}
 use Rattle.ether_format.specs.Members.{Value}
 use Rattle.ether_format.specs.Values.{column_on, header_shown, still_first}
 use Rattle.ether_format.specs.Visits.{Visited}
@@ -268,19 +271,17 @@ gathered_values c found g told visited =
     ∙ ap (λ (l : List Told). column_on true (shown_values (column_view c) l)) (sym all.whole)
 
 -- .. if none of the others has one
-pub later_values : (c : Column) (found : List Found) (g : Gatherer) (told : List Told)
+pub all_values_kept : (c : Column) (found : List Found) (g : Gatherer) (told : List Told)
     → Visited Gathers new_gatherer [] told g found → (g.has_later && has_section g.later c.section) ≡ false
-    → column_on true (shown_values (column_view c) (map found_told found))
-    ≡ column_on true (shown_values (column_view c) told)
-later_values c found g told visited none =
+    → shown_values (column_view c) (map found_told found) ≡ shown_values (column_view c) told
+all_values_kept c found g told visited none =
     let all = all_kept new_gatherer [] told g found visited in
     let vs = shown_values (column_view c) (map found_told found) in
     let apart : shown_values (column_view c) all.later ≡ [] = by g.has_later refl none all.none
     (all.apart c.section c.index) in
-    ap (column_on true)
-    (sym (append-nil vs) ∙ ap (λ (l : List Value). vs ++ l) (sym apart)
-    ∙ sym (flat_map-append (header_shown (column_view c)) (map found_told found) all.later))
-    ∙ ap (λ (l : List Told). column_on true (shown_values (column_view c) l)) (sym all.whole)
+    sym (append-nil vs) ∙ ap (λ (l : List Value). vs ++ l) (sym apart)
+    ∙ sym (flat_map-append (header_shown (column_view c)) (map found_told found) all.later)
+    ∙ ap (λ (l : List Told). shown_values (column_view c) l) (sym all.whole)
   where
     by : {later : List Told} (b : Bool) → g.has_later ≡ b → (b && has_section g.later c.section) ≡ false
         → (g.has_later ≡ false → later ≡ [])
@@ -288,6 +289,12 @@ later_values c found g told visited none =
         → shown_values (column_view c) later ≡ []
     by true is none empty apart = apart none
     by false is none empty apart = ap (shown_values (column_view c)) (empty is)
+
+pub later_values : (c : Column) (found : List Found) (g : Gatherer) (told : List Told)
+    → Visited Gathers new_gatherer [] told g found → (g.has_later && has_section g.later c.section) ≡ false
+    → column_on true (shown_values (column_view c) (map found_told found))
+    ≡ column_on true (shown_values (column_view c) told)
+later_values c found g told visited none = ap (column_on true) (all_values_kept c found g told visited none)
 
 -- the headers in what holds a list of them
 pub items_visited : {T : Type 0} (items : T → List Found) (g : Gatherer) (kept : T) (hs : List Told) (h : Gatherer)
@@ -298,3 +305,23 @@ pub items_visited : {T : Type 0} (items : T → List Found) (g : Gatherer) (kept
 items_visited items g kept [] h new visited = (visited.0, ap items visited.1)
 items_visited items g kept (t ∷ hs) h new visited =
     (visited.0, items visited.1, visited.2, items_visited items visited.0 visited.1 hs h new visited.3)
+
+-- the headers of a packet, gathered by a visit
+pub walk_gathered : {T : Type 0} (items : T → List Found) (limit : Option ℕ) (p : PacketValue) (begun : Gatherer)
+    (none : T) (told : List Told) (end : End) (accepted : Bool) (g : Gatherer) (new : T) (found : List Found)
+    → begun ≡ new_gatherer → items none ≡ [] → items new ≡ found
+    → Tells limit (length p.packet) (content_of p) told end accepted
+    → Visited (λ (x : Gatherer) (l : T) (t : Told) (y : Gatherer) (k : T). Gathers x (items l) t y (items k)) begun none
+    told g new
+    → (hs : List Told) × (last : End) × (also : Bool) × Tells limit (length p.packet) (content_of p) hs last also
+    × Visited Gathers new_gatherer [] hs g found
+walk_gathered items limit p begun none told end accepted g new found is empty all tells visited = (
+  told,
+  end,
+  accepted,
+  tells,
+  subst (λ (l : List Found). Visited Gathers new_gatherer [] told g l) all
+      (subst (λ (l : List Found). Visited Gathers new_gatherer l told g (items new)) empty
+      (subst (λ (k : Gatherer). Visited Gathers k (items none) told g (items new)) is
+      (items_visited items begun none told g new visited))),
+)

@@ -15,3 +15,5 @@ pub mod VisitLemmas
 pub mod GatheredLemmas
 pub mod RowLemmas
 pub mod LineLemmas
+pub mod PlainLemmas
+pub mod CsvLemmas

@@ -17,9 +17,9 @@ use Rattle.ether_format.specs.declared.found.Found.{Found}
 use Rattle.ether_format.specs.declared.moment.Moment.{Moment}
 use Rattle.ether_format.specs.declared.row.LaterValues.{LaterValues}
 use Rattle.ether_format.specs.declared.row.RowPacket.{RowPacket}
-use Rattle.ether_format.specs.Columns.{ColumnValue, Section, column_text, column_view, header_sections, row_text, section, sections as sections_told, values_in}
+use Rattle.ether_format.specs.Columns.{ColumnValue, Section, column_text, column_view, header_sections, section, sections as sections_told, values_in}
 use Rattle.ether_format.specs.Found.{found_told}
-use Rattle.ether_format.specs.Gathered.{OnTold, TakesColumn, TakesLaterIf, TakesLaterValue, TakesRow, shown_values}
+use Rattle.ether_format.specs.Gathered.{OnTold, TakesLaterIf, TakesLaterValue, shown_values}
 use Rattle.ether_format.specs.Members.{Value, members, packet_members, packet_values}
 use Rattle.ether_format.specs.Spelling.{column_value}
 use Rattle.ether_format.specs.Told.{Told, Walked, CookedV2, end_members, end_section, end_values, told_members, told_place_values, told_section}
@@ -188,6 +188,15 @@ end_only s i last number p moment hs end =
     whole s i number p moment hs end vs
     (λ k. no_frame s i number p moment facts.1.0 k ++ (no_headers s i hs facts.0 facts.1.1 k ++ vs))
 
+-- columns that have no values in headers
+pub frame_no_headers : (i : ℕ) (hs : List Told)
+    → shown_values (column_view (record { section = parts.Frame; index = i })) hs ≡ []
+frame_no_headers i hs = no_headers parts.Frame i hs refl (λ e. absurd cc)
+
+pub end_no_headers : (s : HeaderSection) (i : ℕ) → is_end_section s ≡ true → (hs : List Told)
+    → shown_values (column_view (record { section = s; index = i })) hs ≡ []
+end_no_headers s i last hs = let facts = end_facts s last in no_headers s i hs facts.0 facts.1.1
+
 -- its value at this end, and at another one
 pub end_here : (s : HeaderSection) (i : ℕ) (end : End) → s ≡ end_section end
     → if_any (value_at (end_values end) i) ≡ end_shown (column_view (record { section = s; index = i })) end
@@ -251,19 +260,20 @@ module _ {W : Type 0} (contents : W → Option (List ℕ)) (can_fail : Type 0) w
           ∙ ap (λ (n : ℕ). column_on v.is_first (shown_values (column_view v.column) (drop n (h ∷ hs)))) (sym zeros))
           (Takes-then step.1 rest)
 
-abbrev found_shown : ColumnValue → List Found → List Value
+abbrev pub found_shown : ColumnValue → List Found → List Value
 found_shown c headers = shown_values c (map found_told headers)
 
 -- ---- the values of a column
 
-next_values : (c : ColumnValue) (headers : List Found) (n : ℕ) (f : Found) → n < length headers
+pub next_values : (c : ColumnValue) (headers : List Found) (n : ℕ) (f : Found) → n < length headers
     → found_shown c (drop n headers) ≡ header_shown c (found_told (slice_index_or headers n f))
     ++ found_shown c (drop (suc n) headers)
 next_values c [] n f lt = absurd (omega (arith, lt))
 next_values c (g ∷ headers) zero f lt = refl
 next_values c (g ∷ headers) (suc n) f lt = next_values c headers n f (omega (arith, lt))
 
-no_values : (c : ColumnValue) (headers : List Found) (n : ℕ) → length headers ≤ n → found_shown c (drop n headers) ≡ []
+pub no_values : (c : ColumnValue) (headers : List Found) (n : ℕ) → length headers ≤ n
+    → found_shown c (drop n headers) ≡ []
 no_values c [] zero le = refl
 no_values c [] (suc n) le = refl
 no_values c (g ∷ headers) zero le = absurd (omega (arith, le))
@@ -320,80 +330,112 @@ module _ {W : Type 0} (contents : W → Option (List ℕ)) (can_fail : Type 0) (
         ap (still_first is_first) (sym none) ∙ a.next,
       )
 
--- ---- a row
+-- ---- a row: columns with a separator between two, and what ends the row; each is spelled as a field
 
-abbrev pub after_tab : List Section → Column → List ℕ
-after_tab parts c = codes "\t" ++ column_text (column_view c) parts
+module _ (separator finish : List ℕ) (field : List ℕ → List ℕ) where
+  abbrev pub text_of : List Section → ColumnValue → List ℕ
+  text_of parts c = field (column_text c parts)
 
--- the text of a row from a column on
-abbrev pub row_from : List Section → Column → List Column → List ℕ
-row_from parts c others = column_text (column_view c) parts ++ (flat_map (after_tab parts) others ++ codes "\n")
+  abbrev pub row_of : List ColumnValue → List Section → List ℕ
+  row_of columns parts = join_by (text_of parts) separator columns ++ finish
 
-pub row_is : (parts : List Section) (columns : List ColumnValue) (first : Column) (list : List Column)
-    → columns ≡ column_view first ∷ map column_view list → row_from parts first list ≡ row_text columns parts
-row_is parts columns first list are =
-    let begin = column_text (column_view first) parts in
-    sym (append_assoc begin (flat_map (after_tab parts) list) (codes "\n"))
-    ∙ ap (λ t. (begin ++ t) ++ codes "\n") (sym
-    (flat_map-map (λ c. codes "\t" ++ column_text c parts) column_view list))
-    ∙ ap (λ (l : List ColumnValue). row_text l parts) (sym are)
+  abbrev pub after_separator : List Section → Column → List ℕ
+  after_separator parts c = separator ++ text_of parts (column_view c)
 
--- ---- the columns of a row
+  -- the text of a row from a column on
+  abbrev pub row_from : List Section → Column → List Column → List ℕ
+  row_from parts c others =
+      text_of parts (column_view c) ++ (flat_map (after_separator parts) others ++ finish)
 
-module _ {W : Type 0} (contents : W → Option (List ℕ)) (can_fail : Type 0) (columns : List ColumnValue)
-    (row : RowPacket) where
+  row_is : (parts : List Section) (columns : List ColumnValue) (first : Column) (list : List Column)
+      → columns ≡ column_view first ∷ map column_view list → row_from parts first list ≡ row_of columns parts
+  row_is parts columns first list are =
+      let begin = text_of parts (column_view first) in
+      sym (append_assoc begin (flat_map (after_separator parts) list) finish)
+      ∙ ap (λ t. (begin ++ t) ++ finish) (sym
+      (flat_map-map (λ c. separator ++ text_of parts c) column_view list))
+      ∙ ap (λ (l : List ColumnValue). row_of l parts) (sym are)
+
+module _ {W : Type 0} (separator finish : List ℕ) (field : List ℕ → List ℕ) (contents : W → Option (List ℕ))
+    (can_fail : Type 0) (columns : List ColumnValue) (row : RowPacket) where
+  abbrev text : List Section → ColumnValue → List ℕ
+  text parts c = text_of separator finish field parts c
+
+  abbrev from : List Section → Column → List Column → List ℕ
+  from parts c others = row_from separator finish field parts c others
+
+  abbrev whole_row : List Section → List ℕ
+  whole_row parts = row_of separator finish field columns parts
+
+  abbrev after : List Section → Column → List ℕ
+  after parts c = after_separator separator finish field parts c
+
   -- the text so far, and that of the columns that are left, is that of the row
-  pub record Begins (parts : List Section) (c : Column) (others : List Column) (old new : OutputBuffer W) : Type 0 where
-    pub text : List ℕ
-    pub taken : Takes contents can_fail old text new
-    pub whole : text ++ row_from parts c others ≡ row_text columns parts
+  pub record Begins (parts : List Section) (c : Column) (others : List Column)
+      (old new : OutputBuffer W) : Type 0 where
+    pub bytes : List ℕ
+    pub taken : Takes contents can_fail old bytes new
+    pub whole : bytes ++ from parts c others ≡ whole_row parts
 
   abbrev pub WritesColumns : (c : Column) (others : List Column) (old new : OutputBuffer W) → Type 0
   WritesColumns c others old new =
       OnTold row (λ number p moment told end. Begins (sections_told number p moment told end) c others old new)
 
+  -- a column, and all of them
+  abbrev pub WritesField : (c : Column) (old new : OutputBuffer W) → Type 0
+  WritesField c old new =
+      OnTold row
+      (λ number p moment told end.
+      Takes contents can_fail old (text (sections_told number p moment told end) (column_view c)) new)
+
+  abbrev pub WritesRow : (old new : OutputBuffer W) → Type 0
+  WritesRow old new =
+      OnTold row
+      (λ number p moment told end.
+      Takes contents can_fail old (whole_row (sections_told number p moment told end)) new)
+
   pub columns_start : (first : Column) (others : List Column) (out : OutputBuffer W)
       → columns ≡ column_view first ∷ map column_view others → WritesColumns first others out out
   columns_start first others out are moment told end accepted is tells = record {
-    text = [];
+    bytes = [];
     taken = Takes-none contents can_fail out;
-    whole = row_is (sections_told row.number (captured_packet_view row.packet.now) moment told end) columns first
-        others are;
+    whole = row_is separator finish field
+        (sections_told row.number (captured_packet_view row.packet.now) moment told end) columns first others are;
   }
 
   pub columns_next : (c next : Column) (others rest : List Column) (old mid written new : OutputBuffer W)
       → others ≡ next ∷ rest
-      → WritesColumns c others old mid → TakesColumn contents can_fail c row mid written
-      → Takes contents can_fail written (codes "\t") new → WritesColumns next rest old new
-  columns_next c next others rest old mid written new are a column tab moment told end accepted is tells =
+      → WritesColumns c others old mid → WritesField c mid written
+      → Takes contents can_fail written separator new → WritesColumns next rest old new
+  columns_next c next others rest old mid written new are a column between moment told end accepted is tells =
       let parts = sections_told row.number (captured_packet_view row.packet.now) moment told end in
       let before = a moment told end accepted is tells in
-      let here = column_text (column_view c) parts in
-      let later = row_from parts next rest in
+      let here = text parts (column_view c) in
+      let later = from parts next rest in
       record {
-        text = before.text ++ (here ++ codes "\t");
-        taken = Takes-then before.taken (Takes-then (column moment told end accepted is tells) tab);
+        bytes = before.bytes ++ (here ++ separator);
+        taken = Takes-then before.taken (Takes-then (column moment told end accepted is tells) between);
         whole =
-            append_assoc before.text (here ++ codes "\t") later
-            ∙ ap (λ (l : List ℕ). before.text ++ l)
-            (append_assoc here (codes "\t") later
+            append_assoc before.bytes (here ++ separator) later
+            ∙ ap (λ (l : List ℕ). before.bytes ++ l)
+            (append_assoc here separator later
             ∙ ap (λ (l : List ℕ). here ++ l)
-            (sym (append_assoc (codes "\t") (column_text (column_view next) parts)
-            (flat_map (after_tab parts) rest ++ codes "\n"))
-            ∙ sym (append_assoc (after_tab parts next) (flat_map (after_tab parts) rest) (codes "\n")))
-            ∙ ap (λ (l : List Column). here ++ (flat_map (after_tab parts) l ++ codes "\n")) (sym are))
+            (sym (append_assoc separator (text parts (column_view next))
+            (flat_map (after parts) rest ++ finish))
+            ∙ sym (append_assoc (after parts next) (flat_map (after parts) rest) finish))
+            ∙ ap (λ (l : List Column). here ++ (flat_map (after parts) l ++ finish)) (sym are))
             ∙ before.whole;
       }
 
   pub columns_end : (c : Column) (others : List Column) (old mid written new : OutputBuffer W) → others ≡ []
-      → WritesColumns c others old mid → TakesColumn contents can_fail c row mid written
-      → Takes contents can_fail written (codes "\n") new
-      → TakesRow contents can_fail columns row old new
+      → WritesColumns c others old mid → WritesField c mid written
+      → Takes contents can_fail written finish new
+      → WritesRow old new
   columns_end c others old mid written new none a column line moment told end accepted is tells =
       let parts = sections_told row.number (captured_packet_view row.packet.now) moment told end in
       let before = a moment told end accepted is tells in
       Takes-same
-      (ap (λ (l : List Column). before.text ++ (column_text (column_view c) parts
-      ++ (flat_map (after_tab parts) l ++ codes "\n"))) (sym none)
+      (ap (λ (l : List Column). before.bytes ++ (text parts (column_view c)
+      ++ (flat_map (after parts) l ++ finish))) (sym none)
       ∙ before.whole)
       (Takes-then before.taken (Takes-then (column moment told end accepted is tells) line))

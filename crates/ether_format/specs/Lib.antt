@@ -7,6 +7,7 @@ pub mod Json
 pub mod Brief
 pub mod Splits
 pub mod Columns
+pub mod Csv
 pub mod Formats
 pub mod Texts
 pub mod Laws
@@ -17,3 +18,4 @@ pub mod Visits
 pub mod Lines
 pub mod GatheredSections
 pub mod Gathered
+pub mod Counted

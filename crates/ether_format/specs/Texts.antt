@@ -1,22 +1,32 @@
 -- The text of a captured packet in a format.
-use Rattle.std.specs.Prelude.{◌≡◌, ℕ, length, List, Bool, Option}
+use Rattle.std.specs.Prelude.{◌≡◌, ℕ, length, List, [], Bool, Option}
 use Rattle.ether_pcap.specs.Capture.{PacketValue}
 use Rattle.ether_content.specs.Content.{content_of}
 use Rattle.ether_format.specs.declared.moment.Moment.{Moment}
 use Rattle.ether_format.specs.declared.format.Format.{Format}
-use Rattle.ether_format.specs.declared.format.Format.TheVariants.{Json, Brief, Fields}
+use Rattle.ether_format.specs.declared.format.Format.TheVariants.{Json, Brief, Fields, Csv}
 use Rattle.ether_format.specs.Calendar.{AreMoments}
 use Rattle.ether_format.specs.declared.end.End.{End}
 use Rattle.ether_format.specs.Told.{Told, Tells}
 use Rattle.ether_format.specs.Json.{json_line}
 use Rattle.ether_format.specs.Brief.{brief_line}
-use Rattle.ether_format.specs.Columns.{columns_view, row_text, sections}
+use Rattle.ether_format.specs.Columns.{columns_view, heading_text, row_text, sections}
+use Rattle.ether_format.specs.Csv.{csv_heading, csv_row}
 
 abbrev pub format_text : Format → ℕ → PacketValue → Option Moment → List Told → End → List ℕ
 format_text Json number p moment headers end = json_line number p moment headers end
 format_text Brief number p moment headers end = brief_line number p moment headers end
 format_text (Fields columns) number p moment headers end =
     row_text (columns_view columns) (sections number p moment headers end)
+format_text (Csv columns) number p moment headers end =
+    csv_row (columns_view columns) (sections number p moment headers end)
+
+-- the line of the names of columns
+abbrev pub format_heading : Format → List ℕ
+format_heading Json = []
+format_heading Brief = []
+format_heading (Fields columns) = heading_text (columns_view columns)
+format_heading (Csv columns) = csv_heading (columns_view columns)
 
 -- The text of a packet with a number, of what it tells; and whether no header is refused.
 pub record HasText (format : Format) (limit : Option ℕ) (number : ℕ) (p : PacketValue) (text : List ℕ)

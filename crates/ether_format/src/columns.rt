@@ -4,6 +4,7 @@ ghost use Rattle.std.specs.List.{flat_map, slice_split};
 ghost use Rattle.std.specs.Option.{option_map};
 ghost use Rattle.ether_output.specs.OutputBuffer.{Takes};
 ghost use Rattle.ether_format.specs.Splits.{SplitsWord};
+ghost use Rattle.ether_format.specs.Csv.{csv_heading};
 ghost use Rattle.ether_format.specs.Columns.{AreColumns, ColumnValue, IsUnknownIn, column_name, column_view, columns_view, common_columns, heading_text, original_column};
 
 use crate::column::Column;
@@ -188,18 +189,27 @@ impl Columns {
         ensures { Takes W.contents W.can_fail out.old (heading_text (columns_view self.now)) out.new }
     {
         self.first.write_name(out);
-        write_names_after(self.others(), out);
+        write_names_after(b"\t", self.others(), out);
         out.append(b"\n");
+    }
+
+    /// Writes the line of their names as a record of CSV.
+    pub(crate) fn write_csv_heading<W: Sink>(&self, out: &mut OutputBuffer<'_, W>)
+        ensures { Takes W.contents W.can_fail out.old (csv_heading (columns_view self.now)) out.new }
+    {
+        self.first.write_name(out);
+        write_names_after(b",", self.others(), out);
+        out.append(b"\r\n");
     }
 }
 
-/// Writes the names of columns, each after a tab.
-fn write_names_after<W: Sink>(columns: &[Column], out: &mut OutputBuffer<'_, W>)
+/// Writes the names of columns, each after a separator.
+fn write_names_after<W: Sink>(separator: &[u8], columns: &[Column], out: &mut OutputBuffer<'_, W>)
     ensures { Takes W.contents W.can_fail out.old
-        (flat_map (λ c. codes "\t" ++ column_name (column_view c)) columns.now) out.new }
+        (flat_map (λ c. separator.now ++ column_name (column_view c)) columns.now) out.new }
 {
     for column in columns {
-        out.append(b"\t");
+        out.append(separator);
         column.write_name(out);
     }
 }

@@ -1,8 +1,11 @@
 //! How the text of a packet is formed.
 ghost use Rattle.std.specs.Prelude.{IfNone, IfSome};
+ghost use Rattle.ether_output.specs.OutputBuffer.{Takes};
 ghost use Rattle.ether_format.specs.Formats.{NamesFormat};
+ghost use Rattle.ether_format.specs.Texts.{format_heading};
 
 use crate::Columns;
+use ether_output::{OutputBuffer, Sink};
 
 /// How the text of a packet is formed.
 #[derive(Clone, Copy, PartialEq, Eq, Debug)]
@@ -14,9 +17,22 @@ pub enum Format {
     Brief,
     /// A row of columns, with a tab between two.
     Fields(Columns),
+    /// A record of CSV (RFC 4180): columns with a comma between two, on a line that ends with CR LF.
+    Csv(Columns),
 }
 
 impl Format {
+    /// Writes the line of the names of columns, if the format has columns.
+    pub fn write_heading<W: Sink>(&self, out: &mut OutputBuffer<'_, W>)
+        ensures { Takes W.contents W.can_fail out.old (format_heading self.now) out.new }
+    {
+        match self {
+            Format::Json | Format::Brief => {}
+            Format::Fields(columns) => columns.write_heading(out),
+            Format::Csv(columns) => columns.write_csv_heading(out),
+        }
+    }
+
     /// The format that a text names: `json`, `brief`, or columns, as [`Columns::of_names`] reads them.
     ///
     /// ```

@@ -7,6 +7,7 @@ mod calendar;
 mod cause;
 mod column;
 mod columns;
+mod csv;
 mod end;
 mod end_values;
 mod format;

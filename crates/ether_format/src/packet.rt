@@ -4,6 +4,7 @@ ghost use Rattle.ether_output.specs.OutputBuffer.{TakesAnswer};
 ghost use Rattle.ether_format.specs.Texts.{HasText};
 
 use crate::Format;
+use crate::csv::write_csv_row;
 use crate::line::{Line, write_line};
 use crate::row::write_row;
 use ether_output::{OutputBuffer, Sink};
@@ -49,5 +50,6 @@ pub fn write_packet<W: Sink>(
         Format::Json => write_line(Line::Json, limit, number, packet, out),
         Format::Brief => write_line(Line::Brief, limit, number, packet, out),
         Format::Fields(columns) => write_row(columns, limit, number, packet, out),
+        Format::Csv(columns) => write_csv_row(columns, limit, number, packet, out),
     }
 }

@@ -26,10 +26,10 @@ use ether_pcap::CapturedPacket;
 
 /// A packet of a row, and the most VLAN tags and SecTags that are read of it.
 #[derive(Clone, Copy)]
-struct RowPacket<'a> {
-    number: usize,
-    packet: &'a CapturedPacket<'a>,
-    limit: Option<usize>,
+pub(crate) struct RowPacket<'a> {
+    pub(crate) number: usize,
+    pub(crate) packet: &'a CapturedPacket<'a>,
+    pub(crate) limit: Option<usize>,
 }
 
 /// Writes the row of a packet, and returns whether no header of the packet is refused.
@@ -93,7 +93,7 @@ fn write_columns<W: Sink>(
 
 /// Writes a column.
 #[inline(always)]
-fn write_column<W: Sink>(
+pub(crate) fn write_column<W: Sink>(
     column: Column,
     row: &RowPacket<'_>,
     headers: &[Found<'_>],

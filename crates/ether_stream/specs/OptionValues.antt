@@ -9,11 +9,11 @@ use Rattle.ether_filter.specs.declared.filter_error.FilterError.{FilterError}
 use Rattle.ether_content.specs.Editing.{EditValue, CutToHeaders, PopVlan}
 use Rattle.ether_format.specs.Columns.{AreColumns, IsUnknownIn, columns_view}
 use Rattle.ether_format.specs.declared.columns.Columns.{Columns}
-use Rattle.ether_format.specs.declared.format.Format.{Format}
-use Rattle.ether_format.specs.declared.format.Format.TheVariants.{Json, Brief, Fields}
+use Rattle.ether_stream.specs.declared.option_values.FormatName.{FormatName}
+use Rattle.ether_stream.specs.declared.option_values.FormatName.TheVariants.{Json, Brief, Csv}
 use Rattle.ether_stream.specs.VlanOptions.{IsTagEdit}
 use Rattle.ether_stream.specs.Usage.{IsWrongValue}
-use Rattle.ether_stream.specs.declared.option_values.TheConstants.{BRIEF, DROP, JSON, KEEP, LINES, NO, YES}
+use Rattle.ether_stream.specs.declared.option_values.TheConstants.{BRIEF, CSV, DROP, JSON, KEEP, LINES, NO, YES}
 use Rattle.ether_stream.specs.declared.usage.Usage.{Usage}
 use Rattle.ether_stream.specs.declared.usage.Usage.TheVariants as usages
 use Rattle.ether_stream.specs.declared.usage.ValueOption.{ValueOption}
@@ -47,12 +47,12 @@ MeansAnswer text true = text ≡ YES.now
 MeansAnswer text false = text ≡ NO.now
 
 -- the format of the text of packets, if it is another than lines
-abbrev pub IsFormat : Option (List ℕ) → Option Format → Type 0
+abbrev pub IsFormat : Option (List ℕ) → Option FormatName → Type 0
 IsFormat None format = format ≡ None
 IsFormat (Some text) None = text ≡ LINES.now
 IsFormat (Some text) (Some Json) = text ≡ JSON.now
 IsFormat (Some text) (Some Brief) = text ≡ BRIEF.now
-IsFormat (Some text) (Some (Fields columns)) = ⊥
+IsFormat (Some text) (Some Csv) = text ≡ CSV.now
 
 -- the columns of a row
 abbrev pub AreFields : List ℕ → Columns → Type 0

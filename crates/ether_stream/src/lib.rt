@@ -42,8 +42,8 @@ pub use memory::Grow;
 pub use no_memory::NoMemory;
 pub use open_fault::OpenFault;
 pub use option_values::{
-    count_of, edit_of_words, fields_of, filter_of, format_of, limit_of, status_on_fault_of,
-    undecided_of,
+    FormatName, count_of, edit_of_words, fields_of, filter_of, format_of, limit_of,
+    status_on_fault_of, undecided_of,
 };
 pub use outcome::{
     FileEnd, LastLine, Outcome, Reason, RunFault, is_message, last_line, line_of_file,

@@ -62,6 +62,8 @@ pub(crate) const FIELDS: &str = "--fields";
 
 pub(crate) const FORMAT: &str = "--format";
 
+pub(crate) const FORMAT_CSV: &str = "--format csv";
+
 pub(crate) const HEADER: &str = "--header";
 
 pub(crate) const JOBS: &str = "--jobs";
@@ -99,7 +101,7 @@ pub(crate) const KEEP_OR_DROP: &str = "keep or drop";
 
 pub(crate) const YES_OR_NO: &str = "yes or no";
 
-pub(crate) const FORMATS: &str = "lines, brief or json";
+pub(crate) const FORMATS: &str = "lines, brief, json or csv";
 
 pub(crate) const COLUMNS: &str = "at most 32 columns, as vlan.vid,eth.src";
 

@@ -6,7 +6,7 @@ ghost use Rattle.ether_content.specs.Editing.{EditValue};
 ghost use Rattle.ether_content.specs.EditingViews.{edit_view};
 ghost use Rattle.ether_stream.specs.declared.selection.Undecided.{Undecided as UndecidedValue};
 ghost use Rattle.ether_format.specs.declared.columns.Columns.{Columns as ColumnsValue};
-ghost use Rattle.ether_format.specs.declared.format.Format.{Format as FormatValue};
+ghost use Rattle.ether_stream.specs.declared.option_values.FormatName.{FormatName as FormatNameValue};
 ghost use Rattle.ether_stream.specs.Usage.{IsWrongValue};
 ghost use Rattle.ether_stream.specs.OptionValues.{AreFields, AreWrongFields, IsCount, IsFormat, IsIfAny, IsLimit, IsOneEdit, IsSelection, IsWrongEdit, MeansAnswer, MeansUndecided, RefusesSelection};
 
@@ -15,7 +15,7 @@ use crate::usage::{Usage, ValueOption};
 use crate::vlan_options::{TagEdit, small_number, tag_edit_of};
 use ether_content::PacketEdit;
 use ether_filter::{Filter, FilterError};
-use ether_format::{Columns, Format};
+use ether_format::Columns;
 use std::num::NonZeroUsize;
 
 /// The values of `--undecided`.
@@ -30,10 +30,23 @@ const BRIEF: &str = "brief";
 
 const JSON: &str = "json";
 
+const CSV: &str = "csv";
+
 /// The values of `--status-on-fault`.
 const YES: &str = "yes";
 
 const NO: &str = "no";
+
+/// The text of packets that `--format` names.
+#[derive(Clone, Copy, PartialEq, Eq, Debug)]
+pub enum FormatName {
+    /// Objects of JSON.
+    Json,
+    /// Lines for the eye.
+    Brief,
+    /// Columns as CSV.
+    Csv,
+}
 
 /// The edit that options ask for, if any: to cut packets to their headers, to pop a VLAN tag, to push one, or to set
 /// an identifier.
@@ -159,15 +172,16 @@ pub fn fields_of<'a>(
 }
 
 /// The value of `--format`: `None` for `lines`, and if there is no value.
-pub fn format_of<'a>(text: Option<&'a str>) -> Result<Option<Format>, Usage<'a>>
+pub fn format_of<'a>(text: Option<&'a str>) -> Result<Option<FormatName>, Usage<'a>>
     ensures ok { IfOk result (IsFormat (option_map (λ s. s.now) text.entry)) }
-    ensures err { OnErr result ((f : Option FormatValue) → ¬ (IsFormat (option_map (λ s. s.now) text.entry) f)) }
+    ensures err { OnErr result ((f : Option FormatNameValue) → ¬ (IsFormat (option_map (λ s. s.now) text.entry) f)) }
     ensures usage { IfErr result (IsWrongValue ValueOption.Format (option_map (λ s. s.now) text.entry)) }
 {
     match text {
         None | Some(LINES) => Ok(None),
-        Some(JSON) => Ok(Some(Format::Json)),
-        Some(BRIEF) => Ok(Some(Format::Brief)),
+        Some(JSON) => Ok(Some(FormatName::Json)),
+        Some(BRIEF) => Ok(Some(FormatName::Brief)),
+        Some(CSV) => Ok(Some(FormatName::Csv)),
         Some(text) => Err(Usage::Value(ValueOption::Format, text)),
     }
 }

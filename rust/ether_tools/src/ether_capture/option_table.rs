@@ -116,9 +116,9 @@ pub static OPTIONS: [OptionRow<&str>; 22] = [
     OptionRow {
         name: "format",
         spelling: Spelling::Name,
-        value: Some("lines|brief|json"),
+        value: Some("lines|brief|json|csv"),
         group: "Lines",
-        help: "print lines as ever; or each packet on a line of its own, for the eye or as an object of JSON, without totals",
+        help: "print lines as ever; or each packet on a line of its own, for the eye, as an object of JSON or, with --fields, as CSV, without totals",
     },
     OptionRow {
         name: "fields",

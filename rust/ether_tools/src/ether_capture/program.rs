@@ -11,7 +11,7 @@ use crate::ether_capture::run_input::run_input;
 use crate::ether_capture::several_files::run_files;
 use crate::ether_capture::statistics::Statistics;
 use crate::ether_capture::statistics_format::StatisticsFormat;
-use etherpeel::ether_format::Columns;
+use etherpeel::ether_format::Format;
 use etherpeel::ether_output::{OutputBuffer, OutputFault, Sink};
 use crate::ether_stream::{LineSink, Outcome, RunFault, Task, is_message, last_line, program_status};
 use crate::ether_text::Source;
@@ -186,11 +186,11 @@ fn write_lines_or_copy<'a, C: Captures, K: Copies, R: Source, W: Sink, M: LineSi
     messages: &mut M,
 ) -> Outcome<'a> {
     match request {
-        Request::Run(job) => match write_heading(&job.heading.columns(), writer) {
+        Request::Run(job) => match write_heading(&job.heading.format(), writer) {
             Ok(()) => run_job(&job, alloc, captures, copies, reader, writer),
             Err(OutputFault) => Outcome::Run(Err(RunFault::Output)),
         },
-        Request::List(listing) => match write_heading(&listing.heading.columns(), writer) {
+        Request::List(listing) => match write_heading(&listing.heading.format(), writer) {
             Ok(()) => Outcome::Files(run_files(listing, alloc, captures, reader, writer, messages)),
             Err(OutputFault) => Outcome::Run(Err(RunFault::Output)),
         },
@@ -200,12 +200,12 @@ fn write_lines_or_copy<'a, C: Captures, K: Copies, R: Source, W: Sink, M: LineSi
 }
 
 /// Writes the line of the names of columns, if it is asked for.
-fn write_heading<W: Sink>(heading: &Option<Columns>, writer: &mut W) -> Result<(), OutputFault> {
-    let Some(columns) = heading else {
+fn write_heading<W: Sink>(heading: &Option<Format>, writer: &mut W) -> Result<(), OutputFault> {
+    let Some(format) = heading else {
         return Ok(());
     };
     let mut out = OutputBuffer::new(writer);
-    columns.write_heading(&mut out);
+    format.write_heading(&mut out);
     out.flush()
 }
 

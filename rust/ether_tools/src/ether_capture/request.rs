@@ -6,7 +6,7 @@ use etherpeel::ether_filter::{Filter, FilterError};
 use etherpeel::ether_format::{Columns, Format};
 use etherpeel::ether_pcap::CopyMode;
 use crate::ether_stream::{
-    DependentOption, Form, LineOptions, Selection, Task, Undecided, Usage, filter_of,
+    DependentOption, Form, FormatName, LineOptions, Selection, Task, Undecided, Usage, filter_of,
 };
 use std::num::NonZeroUsize;
 
@@ -45,8 +45,8 @@ pub enum Request<'a> {
 pub enum Heading {
     /// Rows, if columns are asked for.
     Absent,
-    /// A line of their names, and then rows.
-    Line(Columns),
+    /// A line of their names in this format, and then rows.
+    Line(Format),
     /// Counts of the texts in the rows, whose first column is the length of the packet.
     Statistics(StatisticsFormat, Columns),
 }
@@ -101,7 +101,7 @@ pub(in crate::ether_capture) struct Asked<'a> {
     pub(in crate::ether_capture) count: Option<NonZeroUsize>,
     pub(in crate::ether_capture) jobs: Option<NonZeroUsize>,
     pub(in crate::ether_capture) limit: Option<usize>,
-    pub(in crate::ether_capture) format: Option<Format>,
+    pub(in crate::ether_capture) format: Option<FormatName>,
     pub(in crate::ether_capture) fields: Option<Columns>,
     pub(in crate::ether_capture) by: Option<Columns>,
     /// The columns whose texts are counted, if that is asked for and there are 32 at most.
@@ -147,6 +147,9 @@ impl<'a> Asked<'a> {
         if self.has_header && self.fields.is_none() && !self.is_counted {
             return Some(DependentOption::Header);
         }
+        if self.is_csv() && self.fields.is_none() && !self.is_counted {
+            return Some(DependentOption::Csv);
+        }
         if self.by.is_some() && !self.is_counted {
             return Some(DependentOption::By);
         }
@@ -185,9 +188,10 @@ impl<'a> Asked<'a> {
             return self.has_header
                 || self.counted.is_none()
                 || self.is_brief()
+                || self.is_csv()
                 || self.clashes_with_by();
         }
-        self.format.is_some() && self.fields.is_some()
+        (self.is_brief() || self.is_json()) && self.fields.is_some()
     }
 
     /// Tests that columns are counted together, and also by themselves or as JSON.
@@ -197,17 +201,22 @@ impl<'a> Asked<'a> {
 
     /// Tests that objects of JSON are asked for.
     fn is_json(&self) -> bool {
-        matches!(self.format, Some(Format::Json))
+        matches!(self.format, Some(FormatName::Json))
+    }
+
+    /// Tests that CSV is asked for.
+    fn is_csv(&self) -> bool {
+        matches!(self.format, Some(FormatName::Csv))
     }
 
     /// Tests that lines for the eye are asked for.
     fn is_brief(&self) -> bool {
-        matches!(self.format, Some(Format::Brief))
+        matches!(self.format, Some(FormatName::Brief))
     }
 
     /// Tests that another format than lines is asked for.
     fn has_format(&self) -> bool {
-        self.format.is_some() || self.columns().is_some()
+        self.format().is_some()
     }
 
     /// The columns of rows, if these are asked for.
@@ -221,8 +230,9 @@ impl<'a> Asked<'a> {
     /// The format that is asked for, if it is another than lines.
     fn format(&self) -> Option<Format> {
         match self.columns() {
+            Some(columns) if self.is_csv() => Some(Format::Csv(columns)),
             Some(columns) => Some(Format::Fields(columns)),
-            None => self.format,
+            None => format_named(self.format),
         }
     }
 
@@ -232,7 +242,7 @@ impl<'a> Asked<'a> {
             return statistics_of(self.by.is_some(), &self.format, &self.counted);
         }
         if self.has_header {
-            return line_of(&self.fields);
+            return line_of(&self.format());
         }
         Heading::Absent
     }
@@ -386,11 +396,20 @@ pub(in crate::ether_capture) fn first_of(by: Option<Columns>, fields: Option<Col
     }
 }
 
+/// The format of this name, unless it has columns.
+fn format_named(name: Option<FormatName>) -> Option<Format> {
+    match name {
+        Some(FormatName::Json) => Some(Format::Json),
+        Some(FormatName::Brief) => Some(Format::Brief),
+        Some(FormatName::Csv) | None => None,
+    }
+}
+
 /// Counts of the texts of columns, of each or of all together, in a format.
-fn statistics_of(is_joint: bool, format: &Option<Format>, columns: &Option<Columns>) -> Heading {
+fn statistics_of(is_joint: bool, format: &Option<FormatName>, columns: &Option<Columns>) -> Heading {
     match (columns, format) {
         (Some(columns), _) if is_joint => Heading::Statistics(StatisticsFormat::Joint, *columns),
-        (Some(columns), Some(Format::Json)) => {
+        (Some(columns), Some(FormatName::Json)) => {
             Heading::Statistics(StatisticsFormat::Json, *columns)
         }
         (Some(columns), _) => Heading::Statistics(StatisticsFormat::Text, *columns),
@@ -398,10 +417,10 @@ fn statistics_of(is_joint: bool, format: &Option<Format>, columns: &Option<Colum
     }
 }
 
-/// A line of the names of columns.
-fn line_of(columns: &Option<Columns>) -> Heading {
-    match columns {
-        Some(columns) => Heading::Line(*columns),
+/// A line of the names of columns in a format.
+fn line_of(format: &Option<Format>) -> Heading {
+    match format {
+        Some(format) => Heading::Line(*format),
         None => Heading::Absent,
     }
 }
@@ -419,11 +438,12 @@ pub(in crate::ether_capture) fn counted_of(is_counted: bool, fields: &Option<Col
 }
 
 impl Heading {
-    /// The columns whose names are written first, if a line of them is.
-    pub(in crate::ether_capture) fn columns(&self) -> Option<Columns> {
+    /// The format of the line of names, if one is written first.
+    pub(in crate::ether_capture) fn format(&self) -> Option<Format> {
         match self {
             Heading::Absent => None,
-            Heading::Line(columns) | Heading::Statistics(_, columns) => Some(*columns),
+            Heading::Line(format) => Some(*format),
+            Heading::Statistics(_, columns) => Some(Format::Fields(*columns)),
         }
     }
 

@@ -62,6 +62,8 @@ pub(in crate::ether_stream) const FIELDS: &str = "--fields";
 
 pub(in crate::ether_stream) const FORMAT: &str = "--format";
 
+pub(in crate::ether_stream) const FORMAT_CSV: &str = "--format csv";
+
 pub(in crate::ether_stream) const HEADER: &str = "--header";
 
 pub(in crate::ether_stream) const JOBS: &str = "--jobs";
@@ -99,7 +101,7 @@ pub(in crate::ether_stream) const KEEP_OR_DROP: &str = "keep or drop";
 
 pub(in crate::ether_stream) const YES_OR_NO: &str = "yes or no";
 
-pub(in crate::ether_stream) const FORMATS: &str = "lines, brief or json";
+pub(in crate::ether_stream) const FORMATS: &str = "lines, brief, json or csv";
 
 pub(in crate::ether_stream) const COLUMNS: &str = "at most 32 columns, as vlan.vid,eth.src";
 

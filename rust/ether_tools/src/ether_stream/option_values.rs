@@ -5,7 +5,7 @@ use crate::ether_stream::usage::{Usage, ValueOption};
 use crate::ether_stream::vlan_options::{TagEdit, small_number, tag_edit_of};
 use etherpeel::ether_content::PacketEdit;
 use etherpeel::ether_filter::{Filter, FilterError};
-use etherpeel::ether_format::{Columns, Format};
+use etherpeel::ether_format::Columns;
 use std::num::NonZeroUsize;
 
 /// The values of `--undecided`.
@@ -20,10 +20,23 @@ const BRIEF: &str = "brief";
 
 const JSON: &str = "json";
 
+const CSV: &str = "csv";
+
 /// The values of `--status-on-fault`.
 const YES: &str = "yes";
 
 const NO: &str = "no";
+
+/// The text of packets that `--format` names.
+#[derive(Clone, Copy, PartialEq, Eq, Debug)]
+pub enum FormatName {
+    /// Objects of JSON.
+    Json,
+    /// Lines for the eye.
+    Brief,
+    /// Columns as CSV.
+    Csv,
+}
 
 /// The edit that options ask for, if any: to cut packets to their headers, to pop a VLAN tag, to push one, or to set
 /// an identifier.
@@ -190,16 +203,17 @@ pub fn fields_of<'a>(
 ///
 /// ```text
 /// ensures ok { IfOk result (IsFormat (option_map (λ s. s.now) text.entry)) }
-/// ensures err { OnErr result ((f : Option FormatValue) → ¬ (IsFormat (option_map (λ s. s.now) text.entry) f)) }
+/// ensures err { OnErr result ((f : Option FormatNameValue) → ¬ (IsFormat (option_map (λ s. s.now) text.entry) f)) }
 /// ensures usage { IfErr result (IsWrongValue ValueOption.Format (option_map (λ s. s.now) text.entry)) }
 /// ```
 ///
 /// </details>
-pub fn format_of<'a>(text: Option<&'a str>) -> Result<Option<Format>, Usage<'a>> {
+pub fn format_of<'a>(text: Option<&'a str>) -> Result<Option<FormatName>, Usage<'a>> {
     match text {
         None | Some(LINES) => Ok(None),
-        Some(JSON) => Ok(Some(Format::Json)),
-        Some(BRIEF) => Ok(Some(Format::Brief)),
+        Some(JSON) => Ok(Some(FormatName::Json)),
+        Some(BRIEF) => Ok(Some(FormatName::Brief)),
+        Some(CSV) => Ok(Some(FormatName::Csv)),
         Some(text) => Err(Usage::Value(ValueOption::Format, text)),
     }
 }

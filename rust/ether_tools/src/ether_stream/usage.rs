@@ -1,8 +1,9 @@
 //! What is wrong with the words of a request.
 
 use crate::ether_stream::messages::{
-    BY, CLASH, COLUMNS, COPIES, COUNT, CUT_TO_HEADERS, EDITS, FIELDS, FORMAT, FORMATS, HEADER,
-    HEADERS, INPUT_TWICE, JOBS, KEEP_OR_DROP, LIMIT, NO_COLUMN, NO_OPTION, NO_VALUE, PACKETS,
+    BY, CLASH, COLUMNS, COPIES, COUNT, CUT_TO_HEADERS, EDITS, FIELDS, FORMAT, FORMATS, FORMAT_CSV,
+    HEADER, HEADERS, INPUT_TWICE, JOBS, KEEP_OR_DROP, LIMIT, NO_COLUMN, NO_OPTION, NO_VALUE,
+    PACKETS,
     POP_VLAN, PUSH_VLAN, PUSHED_TAG, SELECT, SET_VLAN, STATS, STATUS_ON_FAULT, SURPLUS, TWICE,
     TWO_IDENTIFIERS, UNDECIDED, YES_OR_NO,
 };
@@ -72,6 +73,8 @@ pub enum DependentOption {
     Undecided,
     /// `--header`.
     Header,
+    /// `--format csv`.
+    Csv,
     /// `--by`.
     By,
     /// `--cut-to-headers`.
@@ -90,6 +93,7 @@ impl DependentOption {
         match self {
             DependentOption::Undecided => UNDECIDED,
             DependentOption::Header => HEADER,
+            DependentOption::Csv => FORMAT_CSV,
             DependentOption::By => BY,
             DependentOption::CutToHeaders => CUT_TO_HEADERS,
             DependentOption::PopVlan => POP_VLAN,
@@ -102,7 +106,7 @@ impl DependentOption {
     fn needed(self) -> &'static str {
         match self {
             DependentOption::Undecided => SELECT,
-            DependentOption::Header => FIELDS,
+            DependentOption::Header | DependentOption::Csv => FIELDS,
             DependentOption::By => STATS,
             DependentOption::CutToHeaders
             | DependentOption::PopVlan

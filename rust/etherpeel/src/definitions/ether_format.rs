@@ -2007,6 +2007,96 @@
 //!
 //! Uses: `DeclaredColumns` (`Columns`), [`ColumnValue`](#def.ColumnValue), [`column_view`](#def.column_view)
 //!
+//! # Csv
+//!
+//! A packet as a record of CSV (RFC 4180, 2).
+//!
+//! <a id="def.is_special"></a>
+//!
+//! ## `is_special`
+//!
+//! A double quote (34), a comma (44), CR (13) or LF (10).
+//!
+//! ```text
+//! abbrev pub is_special : ℕ → Bool
+//! is_special b = nat_eq b 34 || (nat_eq b 44 || (nat_eq b 13 || nat_eq b 10))
+//! ```
+//!
+//! <a id="def.has_special"></a>
+//!
+//! ## `has_special`
+//!
+//! ```text
+//! abbrev pub has_special : List ℕ → Bool
+//! has_special [] = false
+//! has_special (b ∷ bs) = is_special b || has_special bs
+//! ```
+//!
+//! Uses: [`is_special`](#def.is_special)
+//!
+//! <a id="def.escaped"></a>
+//!
+//! ## `escaped`
+//!
+//! Each double quote with another one before it (rule 7).
+//!
+//! ```text
+//! abbrev pub escaped : List ℕ → List ℕ
+//! escaped text = flat_map (λ b. if nat_eq b 34 then 34 ∷ 34 ∷ [] else b ∷ []) text
+//! ```
+//!
+//! <a id="def.csv_field"></a>
+//!
+//! ## `csv_field`
+//!
+//! A field that has one of these is enclosed in double quotes (rule 6), any other one is not (rule 5).
+//!
+//! ```text
+//! abbrev pub csv_field : List ℕ → List ℕ
+//! csv_field text = if has_special text then codes "\"" ++ (escaped text ++ codes "\"") else text
+//! ```
+//!
+//! Uses: [`has_special`](#def.has_special), [`escaped`](#def.escaped)
+//!
+//! <a id="def.csv_record"></a>
+//!
+//! ## `csv_record`
+//!
+//! Fields with a comma between two (rule 4), on a line that ends with CR LF (rule 1).
+//!
+//! ```text
+//! abbrev pub csv_record : {X : Type 0} → (text : X → List ℕ) → List X → List ℕ
+//! csv_record text columns = join_by (λ c. csv_field (text c)) (codes ",") columns ++ (13 ∷ 10 ∷ [])
+//! ```
+//!
+//! Uses: [`csv_field`](#def.csv_field)
+//!
+//! <a id="def.csv_row"></a>
+//!
+//! ## `csv_row`
+//!
+//! The columns of a packet.
+//!
+//! ```text
+//! abbrev pub csv_row : List ColumnValue → List Section → List ℕ
+//! csv_row columns parts = csv_record (λ c. column_text c parts) columns
+//! ```
+//!
+//! Uses: [`ColumnValue`](#def.ColumnValue), [`Section`](#def.Section), [`csv_record`](#def.csv_record), [`column_text`](#def.column_text)
+//!
+//! <a id="def.csv_heading"></a>
+//!
+//! ## `csv_heading`
+//!
+//! The line of their names (rule 3).
+//!
+//! ```text
+//! abbrev pub csv_heading : List ColumnValue → List ℕ
+//! csv_heading columns = csv_record column_name columns
+//! ```
+//!
+//! Uses: [`ColumnValue`](#def.ColumnValue), [`csv_record`](#def.csv_record), [`column_name`](#def.column_name)
+//!
 //! # Formats
 //!
 //! Which format a text names.
@@ -2020,9 +2110,10 @@
 //! NamesFormat text Json = text ≡ codes "json"
 //! NamesFormat text Brief = text ≡ codes "brief"
 //! NamesFormat text (Fields columns) = AreColumns text (columns_view columns)
+//! NamesFormat text (Csv columns) = ⊥
 //! ```
 //!
-//! Uses: `Json` (`Format::Json`), `Brief` (`Format::Brief`), `Fields` (`Format::Fields`), [`AreColumns`](#def.AreColumns), [`columns_view`](#def.columns_view)
+//! Uses: `Json` (`Format::Json`), `Brief` (`Format::Brief`), `Fields` (`Format::Fields`), [`AreColumns`](#def.AreColumns), [`columns_view`](#def.columns_view), `Csv` (`Format::Csv`)
 //!
 //! # Texts
 //!
@@ -2038,9 +2129,27 @@
 //! format_text Brief number p moment headers end = brief_line number p moment headers end
 //! format_text (Fields columns) number p moment headers end =
 //!     row_text (columns_view columns) (sections number p moment headers end)
+//! format_text (Csv columns) number p moment headers end =
+//!     csv_row (columns_view columns) (sections number p moment headers end)
 //! ```
 //!
-//! Uses: [`PacketValue`](crate::definitions::ether_pcap#def.PacketValue), [`Told`](#def.Told), [`End`](#def.End), `Json` (`Format::Json`), [`json_line`](#def.json_line), `Brief` (`Format::Brief`), [`brief_line`](#def.brief_line), `Fields` (`Format::Fields`), [`row_text`](#def.row_text), [`columns_view`](#def.columns_view), [`sections`](#def.sections)
+//! Uses: [`PacketValue`](crate::definitions::ether_pcap#def.PacketValue), [`Told`](#def.Told), [`End`](#def.End), `Json` (`Format::Json`), [`json_line`](#def.json_line), `Brief` (`Format::Brief`), [`brief_line`](#def.brief_line), `Fields` (`Format::Fields`), [`row_text`](#def.row_text), [`columns_view`](#def.columns_view), [`sections`](#def.sections), `Csv` (`Format::Csv`), [`csv_row`](#def.csv_row)
+//!
+//! <a id="def.format_heading"></a>
+//!
+//! ## `format_heading`
+//!
+//! The line of the names of columns.
+//!
+//! ```text
+//! abbrev pub format_heading : Format → List ℕ
+//! format_heading Json = []
+//! format_heading Brief = []
+//! format_heading (Fields columns) = heading_text (columns_view columns)
+//! format_heading (Csv columns) = csv_heading (columns_view columns)
+//! ```
+//!
+//! Uses: `Json` (`Format::Json`), `Brief` (`Format::Brief`), `Fields` (`Format::Fields`), [`heading_text`](#def.heading_text), [`columns_view`](#def.columns_view), `Csv` (`Format::Csv`), [`csv_heading`](#def.csv_heading)
 //!
 //! <a id="def.HasText"></a>
 //!

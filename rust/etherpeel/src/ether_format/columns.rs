@@ -232,16 +232,24 @@ impl Columns {
     #[inline]
     pub fn write_heading<W: Sink>(&self, out: &mut OutputBuffer<'_, W>) {
         self.first.write_name(out);
-        write_names_after(self.others(), out);
+        write_names_after(b"\t", self.others(), out);
         out.append(b"\n");
+    }
+
+    /// Writes the line of their names as a record of CSV.
+    #[inline]
+    pub(in crate::ether_format) fn write_csv_heading<W: Sink>(&self, out: &mut OutputBuffer<'_, W>) {
+        self.first.write_name(out);
+        write_names_after(b",", self.others(), out);
+        out.append(b"\r\n");
     }
 }
 
-/// Writes the names of columns, each after a tab.
+/// Writes the names of columns, each after a separator.
 #[inline]
-fn write_names_after<W: Sink>(columns: &[Column], out: &mut OutputBuffer<'_, W>) {
+fn write_names_after<W: Sink>(separator: &[u8], columns: &[Column], out: &mut OutputBuffer<'_, W>) {
     for column in columns {
-        out.append(b"\t");
+        out.append(separator);
         column.write_name(out);
     }
 }

@@ -1,6 +1,7 @@
 //! How the text of a packet is formed.
 
 use crate::ether_format::Columns;
+use crate::ether_output::{OutputBuffer, Sink};
 
 /// How the text of a packet is formed.
 #[derive(Clone, Copy, PartialEq, Eq, Hash, Debug)]
@@ -12,9 +13,33 @@ pub enum Format {
     Brief,
     /// A row of columns, with a tab between two.
     Fields(Columns),
+    /// A record of CSV (RFC 4180): columns with a comma between two, on a line that ends with CR LF.
+    Csv(Columns),
 }
 
 impl Format {
+    /// Writes the line of the names of columns, if the format has columns.
+    ///
+    /// <details><summary>Contract</summary>
+    ///
+    /// ```text
+    /// ensures { Takes W.contents W.can_fail out.old (format_heading self.now) out.new }
+    /// ```
+    ///
+    /// Words: [`Takes`](crate::definitions::ether_output#def.Takes),
+    /// [`format_heading`](crate::definitions::ether_format#def.format_heading).
+    /// [Notation](crate::definitions::notation)
+    ///
+    /// </details>
+    #[inline]
+    pub fn write_heading<W: Sink>(&self, out: &mut OutputBuffer<'_, W>) {
+        match self {
+            Format::Json | Format::Brief => {}
+            Format::Fields(columns) => columns.write_heading(out),
+            Format::Csv(columns) => columns.write_csv_heading(out),
+        }
+    }
+
     /// The format that a text names: `json`, `brief`, or columns, as [`Columns::of_names`] reads them.
     ///
     /// ```

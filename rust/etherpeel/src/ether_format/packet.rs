@@ -1,6 +1,7 @@
 //! Writes a captured packet in a format.
 
 use crate::ether_format::Format;
+use crate::ether_format::csv::write_csv_row;
 use crate::ether_format::line::{Line, write_line};
 use crate::ether_format::row::write_row;
 use crate::ether_output::{OutputBuffer, Sink};
@@ -65,5 +66,6 @@ pub fn write_packet<W: Sink>(
         Format::Json => write_line(Line::Json, limit, number, packet, out),
         Format::Brief => write_line(Line::Brief, limit, number, packet, out),
         Format::Fields(columns) => write_row(columns, limit, number, packet, out),
+        Format::Csv(columns) => write_csv_row(columns, limit, number, packet, out),
     }
 }

@@ -17,10 +17,10 @@ use crate::ether_pcap::CapturedPacket;
 
 /// A packet of a row, and the most VLAN tags and SecTags that are read of it.
 #[derive(Clone, Copy)]
-struct RowPacket<'a> {
-    number: usize,
-    packet: &'a CapturedPacket<'a>,
-    limit: Option<usize>,
+pub(in crate::ether_format) struct RowPacket<'a> {
+    pub(in crate::ether_format) number: usize,
+    pub(in crate::ether_format) packet: &'a CapturedPacket<'a>,
+    pub(in crate::ether_format) limit: Option<usize>,
 }
 
 /// Writes the row of a packet, and returns whether no header of the packet is refused.
@@ -77,7 +77,7 @@ fn write_columns<W: Sink>(
 
 /// Writes a column.
 #[inline(always)]
-fn write_column<W: Sink>(
+pub(in crate::ether_format) fn write_column<W: Sink>(
     column: Column,
     row: &RowPacket<'_>,
     headers: &[Found<'_>],

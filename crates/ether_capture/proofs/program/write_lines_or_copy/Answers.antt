@@ -1,7 +1,7 @@
 use Rattle.std.proofs.Common.{◌∙◌, Option, refl, sym, subst}
 use Rattle.std.specs.Io.KnownBytes.{Appends}
 use Rattle.ether_output.proofs.KnownBytesLemmas.{Appends-none}
-use Rattle.ether_format.specs.declared.columns.Columns.{Columns}
+use Rattle.ether_format.specs.declared.format.Format.{Format}
 use Rattle.ether_capture.specs.Program.{failed, headed, heading_if}
 use Rattle.ether_stream.specs.declared.outcome.Outcome.TheVariants as outcomes
 use Rattle.ether_capture.proofs.program.write_lines_or_copy.Goals as goal
@@ -11,30 +11,30 @@ returns-in-Ok-clause-done g c =
     λ is_known. rw c.in-Run.is
     (headed _ _
     (subst
-    (λ (h : Option Columns). Appends (g.W.Sink.contents c.args.writer.now)
+    (λ (h : Option Format). Appends (g.W.Sink.contents c.args.writer.now)
     (g.W.Sink.contents c.write_heading.new.writer) (heading_if h))
-    c.columns.ensures c.in-Ok.ensures.written)
+    c.format.ensures c.in-Ok.ensures.written)
     (c.run_job.ensures.run _))
 
 pub returns-in-Run-clause-done : goal.returns-in-Run-clause-done
 returns-in-Run-clause-done g c =
     λ is_known. let fault = c.in-Err.ensures.failed in
-    rw c.in-Run.is (failed fault.1.0 (sym c.columns.ensures ∙ fault.1.1) fault.0 refl)
+    rw c.in-Run.is (failed fault.1.0 (sym c.format.ensures ∙ fault.1.1) fault.0 refl)
 
 pub returns-in-Ok-write_heading-clause-done : goal.returns-in-Ok-write_heading-clause-done
 returns-in-Ok-write_heading-clause-done g c =
     λ is_known. rw c.in-List.is
     (headed (outcomes.Files c.run_files.result) (g.W.Sink.contents c.write_heading-in-List.new.writer)
     (subst
-    (λ (h : Option Columns).
+    (λ (h : Option Format).
     Appends (g.W.Sink.contents c.args.writer.now) (g.W.Sink.contents c.write_heading-in-List.new.writer) (heading_if h))
-    c.columns-in-List.ensures c.in-Ok-write_heading.ensures.written)
+    c.format-in-List.ensures c.in-Ok-write_heading.ensures.written)
     (c.run_files.ensures.listed _))
 
 pub returns-in-List-clause-done : goal.returns-in-List-clause-done
 returns-in-List-clause-done g c =
     λ is_known. let fault = c.in-Err-write_heading.ensures.failed in
-    rw c.in-List.is (failed fault.1.0 (sym c.columns-in-List.ensures ∙ fault.1.1) fault.0 refl)
+    rw c.in-List.is (failed fault.1.0 (sym c.format-in-List.ensures ∙ fault.1.1) fault.0 refl)
 
 pub returns-in-Help-clause-done : goal.returns-in-Help-clause-done
 returns-in-Help-clause-done g c = λ is_known. rw c.in-Help.is

@@ -1,4 +1,5 @@
 use Rattle.std.proofs.Common.{◌∷◌, ap, sym, map, ◌∙◌, arith}
+use Rattle.std.specs.Prelude.{codes}
 use Rattle.ether_format.specs.Columns.{column_view, columns_view}
 use Rattle.ether_format.proofs.RowLemmas.{columns_end, columns_next, columns_start}
 use Rattle.ether_format.proofs.ListLemmas.{first_others, none_of}
@@ -6,14 +7,16 @@ use Rattle.ether_format.proofs.row.write_columns.Goals as goal
 
 pub loop-others-init : goal.loop-others-init
 loop-others-init g c =
-    columns_start g.W.Sink.contents g.W.Sink.can_fail (columns_view c.args.columns.now) c.args.row.now
+    columns_start (codes "\t") (codes "\n") (λ text. text) g.W.Sink.contents g.W.Sink.can_fail
+    (columns_view c.args.columns.now) c.args.row.now
     c.first-column.result c.others-others.result.now c.args.out.now
     (c.others-others.ensures ∙ ap (λ d. column_view d ∷ map column_view c.others-others.result.now)
     (sym c.first-column.ensures))
 
 pub loop-others-preserved : goal.loop-others-preserved
 loop-others-preserved g c =
-    columns_next g.W.Sink.contents g.W.Sink.can_fail (columns_view c.args.columns.now) c.args.row.now
+    columns_next (codes "\t") (codes "\n") (λ text. text) g.W.Sink.contents g.W.Sink.can_fail
+    (columns_view c.args.columns.now) c.args.row.now
     c.loop-others.column _ c.loop-others.others.now _ c.args.out.now c.loop-others.out
     c.write_column.new.out
     c.append-in-len1-up.new.self (first_others c.loop-others.others.now _ c.in-len1-up.len_at_least)
@@ -23,7 +26,8 @@ loop-others-preserved g c =
 pub returns-in-empty : goal.returns-in-empty
 returns-in-empty g c =
     let few = c.in-empty.len_below in
-    columns_end g.W.Sink.contents g.W.Sink.can_fail (columns_view c.args.columns.now) c.args.row.now
+    columns_end (codes "\t") (codes "\n") (λ text. text) g.W.Sink.contents g.W.Sink.can_fail
+    (columns_view c.args.columns.now) c.args.row.now
     c.loop-others.column c.loop-others.others.now c.args.out.now c.loop-others.out
     c.write_column.new.out
     c.append.new.self (none_of c.loop-others.others.now (omega (arith, few))) c.loop-others.invariant

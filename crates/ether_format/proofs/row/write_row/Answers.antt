@@ -1,36 +1,18 @@
-use Rattle.std.proofs.Common.{List, [], length, Bool, refl, sym, subst}
+use Rattle.std.proofs.Common.{Bool, length, refl, sym, subst}
 use Rattle.ether_pcap.specs.CaptureViews.{captured_packet_view}
 use Rattle.ether_content.specs.Content.{content_of}
-use Rattle.ether_format.specs.declared.found.Found.{Found}
-use Rattle.ether_format.specs.declared.gathered.Gatherer.{Gatherer}
-use Rattle.ether_format.specs.Gathered.{Gathers}
-use Rattle.ether_format.specs.GatheredSections.{new_gatherer}
 use Rattle.ether_format.specs.Told.{Tells, is_end_accepted}
-use Rattle.ether_format.specs.Visits.{Visited}
-use Rattle.ether_format.proofs.GatheredLemmas.{items_visited}
+use Rattle.ether_format.proofs.GatheredLemmas.{walk_gathered}
 use Rattle.ether_format.proofs.SomeMoment.{some_moments}
 use Rattle.ether_format.proofs.row.write_row.Goals as goal
 
 pub write_columns-requires-clause-told : goal.write_columns-requires-clause-told
 write_columns-requires-clause-told g c =
     let visit = c.visit-end.ensures in
-    let found = c.visit-end.new.target in
-    let kept =
-    items_visited (λ l. l.items) c.new-gatherer.result c.new-headers.result visit.0 c.visit-end.new.visitor found
-    visit.2 in
-    let begun =
-    subst (λ (k : Gatherer). Visited Gathers k c.new-headers.result.items visit.0 c.visit-end.new.visitor found.items)
-    c.new-gatherer.ensures kept in
-    let whole =
-    subst (λ (l : List Found). Visited Gathers new_gatherer l visit.0 c.visit-end.new.visitor found.items)
-    c.new-headers.ensures begun in (
-      visit.0,
-      c.visit-end.result,
-      is_end_accepted c.visit-end.result,
-      visit.1,
-      subst (λ (l : List Found). Visited Gathers new_gatherer [] visit.0 c.visit-end.new.visitor l)
-          (sym c.as_slice-headers.ensures.value) whole,
-    )
+    walk_gathered (λ l. l.items) c.args.limit (captured_packet_view c.args.packet.now) c.new-gatherer.result
+    c.new-headers.result visit.0 c.visit-end.result (is_end_accepted c.visit-end.result)
+    c.visit-end.new.visitor c.visit-end.new.target _ c.new-gatherer.ensures c.new-headers.ensures
+    (sym c.as_slice-headers.ensures.value) visit.1 visit.2
 
 pub returns : goal.returns
 returns g c =

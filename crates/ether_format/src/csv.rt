@@ -1,0 +1,197 @@
+//! Writes a packet as a record of CSV (RFC 4180).
+ghost use Rattle.std.specs.Prelude.{◌≡◌, map};
+ghost use Rattle.std.specs.Option.{option_map};
+ghost use Rattle.ether_pcap.specs.CaptureViews.{captured_packet_view};
+ghost use Rattle.ether_output.specs.OutputBuffer.{Takes, TakesAnswer};
+ghost use Rattle.ether_format.specs.declared.csv.Count.TheVariants as counts;
+ghost use Rattle.ether_format.specs.declared.format.Format.TheVariants as formats;
+ghost use Rattle.ether_format.specs.Columns.{column_view, columns_view};
+ghost use Rattle.ether_format.specs.Counted.{TakesField, TakesRecord, TellsSeveral, counted, is_several, quote_if};
+ghost use Rattle.ether_format.specs.Found.{found_told};
+ghost use Rattle.ether_format.specs.Gathered.{AreGathered, HasEnd, shown_values};
+ghost use Rattle.ether_format.specs.Texts.{HasText};
+ghost use Rattle.ether_format.specs.Values.{if_any, value_view};
+
+use crate::Columns;
+use crate::column::Column;
+use crate::end::End;
+use crate::found::Found;
+use crate::gathered::{Gatherer, Headers};
+use crate::row::{RowPacket, write_column};
+use crate::value::Value;
+use crate::visit::{Visitor, visit};
+use ether_output::{OutputBuffer, Sink};
+use ether_pcap::CapturedPacket;
+
+/// Writes the record of a packet, and returns whether no header of the packet is refused.
+#[inline(never)]
+pub(crate) fn write_csv_row<W: Sink>(
+    columns: &Columns,
+    limit: Option<usize>,
+    number: usize,
+    packet: &CapturedPacket<'_>,
+    out: &mut OutputBuffer<'_, W>,
+) -> bool
+    ensures { TakesAnswer W.contents W.can_fail
+        (HasText (formats.Csv columns.now) limit number (captured_packet_view packet.now))
+        out.old out.new result }
+{
+    let mut headers = Headers::new();
+    let mut gatherer = Gatherer::new();
+    let end = visit(packet, limit, &mut gatherer, &mut headers);
+    let row = RowPacket {
+        number,
+        packet,
+        limit,
+    };
+    let headers = headers.as_slice();
+    write_record(columns, &row, headers, &gatherer, &end, out);
+    end.is_accepted()
+}
+
+/// Writes the fields of a record.
+fn write_record<W: Sink>(
+    columns: &Columns,
+    row: &RowPacket<'_>,
+    headers: &[Found<'_>],
+    gatherer: &Gatherer,
+    end: &End,
+    out: &mut OutputBuffer<'_, W>,
+)
+    requires told { AreGathered row.now headers.now gatherer.now }
+    requires end { HasEnd row.now end.now }
+    ensures { TakesRecord W.contents W.can_fail (columns_view columns.now) row.now out.old out.new }
+{
+    let mut column = columns.first();
+    let mut others = columns.others();
+    loop {
+        write_field(column, row, headers, gatherer, end, out);
+        match others {
+            [next, rest @ ..] => {
+                out.append(b",");
+                column = *next;
+                others = rest;
+            }
+            [] => {
+                out.append(b"\r\n");
+                return;
+            }
+        }
+    }
+}
+
+/// Writes a column. It is enclosed in double quotes if it has several values, since there is a comma between two. A
+/// value has none of the bytes that ask for double quotes.
+fn write_field<W: Sink>(
+    column: Column,
+    row: &RowPacket<'_>,
+    headers: &[Found<'_>],
+    gatherer: &Gatherer,
+    end: &End,
+    out: &mut OutputBuffer<'_, W>,
+)
+    requires told { AreGathered row.now headers.now gatherer.now }
+    requires end { HasEnd row.now end.now }
+    ensures { TakesField W.contents W.can_fail column row.now out.old out.new }
+{
+    let is_enclosed = has_several(column, row, headers, gatherer);
+    write_quote_if(is_enclosed, out);
+    write_column(column, row, headers, gatherer, end, out);
+    write_quote_if(is_enclosed, out);
+}
+
+/// Writes a double quote around a field that is enclosed.
+fn write_quote_if<W: Sink>(is_enclosed: bool, out: &mut OutputBuffer<'_, W>)
+    ensures { Takes W.contents W.can_fail out.old (quote_if is_enclosed) out.new }
+{
+    if is_enclosed {
+        out.append(b"\"");
+    }
+}
+
+/// Whether a column has several values in the headers of a packet.
+fn has_several(
+    column: Column,
+    row: &RowPacket<'_>,
+    headers: &[Found<'_>],
+    gatherer: &Gatherer,
+) -> bool
+    requires { AreGathered row.now headers.now gatherer.now }
+    ensures { TellsSeveral column row.now result }
+{
+    if gatherer.has(column.section) {
+        has_several_in_all(column, row)
+    } else {
+        count_in(column, headers).is_several()
+    }
+}
+
+/// How many values a column has.
+#[derive(Clone, Copy)]
+enum Count {
+    Zero,
+    One,
+    Several,
+}
+
+impl Count {
+    /// Counts a value, if there is one.
+    fn and(self, value: Option<Value<'_>>) -> Count
+        ensures { result ≡ counted self (if_any (option_map value_view value.entry)) }
+    {
+        match (value, self) {
+            (None, count) => count,
+            (Some(_), Count::Zero) => Count::One,
+            (Some(_), Count::One | Count::Several) => Count::Several,
+        }
+    }
+
+    /// Whether there are several.
+    fn is_several(self) -> bool
+        ensures { result ≡ is_several self }
+    {
+        matches!(self, Count::Several)
+    }
+}
+
+/// How many values a column has in these headers.
+fn count_in(column: Column, headers: &[Found<'_>]) -> Count
+    ensures { result ≡ counted counts.Zero (shown_values (column_view column) (map found_told headers.now)) }
+{
+    let mut count = Count::Zero;
+    for found in headers {
+        count = count.and(column.in_found(found));
+    }
+    count
+}
+
+/// Whether a column has several values in the headers of a packet, which are walked again.
+#[inline(never)]
+fn has_several_in_all(column: Column, row: &RowPacket<'_>) -> bool
+    ensures { TellsSeveral column row.now result }
+{
+    let mut count = Count::Zero;
+    visit(
+        row.packet,
+        row.limit,
+        &mut ValueCounter { column },
+        &mut count,
+    );
+    count.is_several()
+}
+
+/// Counts the values of a column.
+#[derive(Clone, Copy)]
+struct ValueCounter {
+    column: Column,
+}
+
+impl<'a> Visitor<'a, Count> for ValueCounter {
+    ghost use Rattle.ether_format.specs.Counted.{CountsHeader};
+
+    ghost takes = { λ old count told new next. CountsHeader old count told new next };
+
+    fn header(&mut self, found: Found<'a>, target: &mut Count) {
+        *target = target.and(self.column.in_found(&found));
+    }
+}
