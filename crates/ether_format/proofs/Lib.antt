@@ -17,3 +17,4 @@ pub mod RowLemmas
 pub mod LineLemmas
 pub mod PlainLemmas
 pub mod CsvLemmas
+pub mod CsvReadingLemmas

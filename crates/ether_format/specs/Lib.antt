@@ -8,6 +8,7 @@ pub mod Brief
 pub mod Splits
 pub mod Columns
 pub mod Csv
+pub mod CsvReading
 pub mod Formats
 pub mod Texts
 pub mod Laws
