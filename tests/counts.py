@@ -83,6 +83,29 @@ vlan.vid	vlan.pcp	eth.type	1,5	5,0	0x88A8	1	24
 ]
 
 
+WHOLE = "standard input: line {}: no whole line of a count, as --stats prints it\n"
+MOST = 2 ** 64 - 1
+
+# Counts that are added up: name, the counts, words, status, their sums, and what is said.
+SUMS = [
+    ("two runs", "eth.src\ta\t1\t60\ntotal\t\t1\t60\neth.src\ta\t2\t120\neth.src\tb\t1\t14\ntotal\t\t3\t134\n", [], 0,
+     "eth.src\ta\t3\t180\neth.src\tb\t1\t14\ntotal\t\t4\t194\n", ""),
+    ("as JSON", "vlan.vid\t5\t1\t60\nvlan.vid\t5\t2\t120\n", ["--format", "json"], 0,
+     '{"column":"vlan.vid","value":"5","packets":3,"bytes":180}\n', ""),
+    ("of columns together, where a text is empty", "a\tb\t\tx\t1\t2\na\tb\t\tx\t3\t4\na\tb\tx\t\t5\t6\n", [], 0,
+     "a\tb\t\tx\t4\t6\na\tb\tx\t\t5\t6\n", ""),
+    ("more than 64 bits hold", f"a\tb\t{MOST}\t{MOST - 1}\na\tb\t1\t1\n", [], 0, f"a\tb\t{MOST}\t{MOST}\n", ""),
+    ("nothing", "", [], 0, "", ""),
+    ("a word in place of a number", "a\tb\t1\t2\na\tb\t1\tx\n", [], 3, "", WHOLE.format(2)),
+    ("a number with a sign", "a\tb\t+1\t2\n", [], 3, "", WHOLE.format(1)),
+    ("no number", "a\tb\t\t2\n", [], 3, "", WHOLE.format(1)),
+    ("one number", "1\t2\n", [], 3, "", WHOLE.format(1)),
+    ("an empty line", "a\tb\t1\t2\n\n", [], 3, "", WHOLE.format(2)),
+    ("a line that is cut", "a\tb\t1\t2\na\tb\t3\t4", [], 3, "", WHOLE.format(2)),
+    ("JSON", '{"column":"a","value":"b","packets":1,"bytes":2}\n', [], 3, "", WHOLE.format(1)),
+]
+
+
 def as_objects(text):
     """What JSON has for these lines."""
     rows = [line.split("\t") for line in text.splitlines()]
@@ -108,7 +131,21 @@ def examples(program):
     yield "counts as JSON, byte for byte", found, ('{"column":"total","value":"","packets":1,"bytes":46}\n' + line, "", 0)
     yield ("counts up to a cut record", partial(run_apart, program, ["--stats", "--fields", "vlan.vid"], TAGS[:82]),
            ("total\t\t1\t24\nvlan.vid\t1,5\t1\t24\n", INPUT + record_is_cut(64, 30, 18), 3))
+    for name, text, words, status, sums, said in SUMS:
+        yield f"sums: {name}", partial(run_apart, program, ["--merge", *words], text.encode()), (sums, said, status)
     yield from files(program)
+    yield from parts(program)
+
+
+def parts(program):
+    """Counts of a capture that is cut in three add up to those of the whole."""
+    packets = drawn(3_000)
+    for words in ([], ["--fields", "eth.src,vlan.vid"], ["--by", "eth.type,vlan.vid"], ["--by", "frame.original"]):
+        words = ["--stats", "--status-on-fault", "no", *words]
+        cut = [packets[:7], packets[7:1_500], packets[1_500:]]
+        counts = "".join(run_apart(program, words, classic(*part))[0] for part in cut)
+        found = run_apart(program, ["--merge"], counts.encode())
+        yield f"sums of parts: {' '.join(words)}", found, run_apart(program, words, classic(*packets))
 
 
 def files(program):

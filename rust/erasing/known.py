@@ -81,7 +81,7 @@ PROGRAM_PATHS = set(
     io::Result io::Sink io::Write io::sink hex::decode_to_slice hex::encode_to_slice thiserror::Error u64::MAX""".split()
 )
 PROGRAM_METHODS = set(
-    """as_bytes collect into_iter wrapping_mul flush kind parse position read saturating_mul split_at starts_with write write_all""".split()
+    """as_bytes collect into_iter is_ascii_digit wrapping_mul flush kind parse position read saturating_mul split_at starts_with write write_all""".split()
 )
 
 # What the programs among the examples use besides.

@@ -44,24 +44,24 @@ module _ {X : Type 0} (old new : BTreeMap (Vec ℕ) X) (key : List ℕ) (w : Opt
           other_entries _ _ _ _ h.3 _ (λ x y. (eq_by_cmp_equiv nat_list_cmp_total).congr q x.items y.items)
           (λ k. apart key q k.items n)
 
-module _ (old new : BTreeMap (Vec ℕ) Count) (key : List ℕ) (bytes : ℕ) (count next : Count) where
-  pub with_one_more : at old key ≡ Some count → next ≡ plus (Some count) bytes
+module _ (old new : BTreeMap (Vec ℕ) Count) (key : List ℕ) (more count next : Count) where
+  pub with_one_more : at old key ≡ Some count → next ≡ plus (Some count) more
       → UpdatesBy (λ x y. slice_cmp nat_cmp x.items y.items) (λ k. slice_cmp nat_cmp key k.items) old new (Some next)
-      → AddsHit key bytes (at old) (at new)
+      → AddsHit (record { key = key; count = more }) (at old) (at new)
   with_one_more is sum h q = updates_at old new key (Some next) h q ∙ same (bytes_eq key q) refl
     where
       same : (b : Bool) → bytes_eq key q ≡ b → (if b then Some next else at old q)
-          ≡ (if b then Some (plus (at old q) bytes) else at old q)
+          ≡ (if b then Some (plus (at old q) more) else at old q)
       same false e = refl
       same true e =
-          ap Some sum ∙ ap (λ o. Some (plus o bytes)) (sym is ∙ ap (at old) ((bytes_decides key q).0 e))
+          ap Some sum ∙ ap (λ o. Some (plus o more)) (sym is ∙ ap (at old) ((bytes_decides key q).0 e))
 
   pub with_first : at old key ≡ None
-      → ((q : List ℕ) → at new q ≡ (if bytes_eq key q then Some (plus None bytes) else at old q))
-      → AddsHit key bytes (at old) (at new)
+      → ((q : List ℕ) → at new q ≡ (if bytes_eq key q then Some (plus None more) else at old q))
+      → AddsHit (record { key = key; count = more }) (at old) (at new)
   with_first none h q = h q ∙ same (bytes_eq key q) refl
     where
       same : (b : Bool) → bytes_eq key q ≡ b
-          → (if b then Some (plus None bytes) else at old q) ≡ (if b then Some (plus (at old q) bytes) else at old q)
+          → (if b then Some (plus None more) else at old q) ≡ (if b then Some (plus (at old q) more) else at old q)
       same false e = refl
-      same true e = ap (λ o. Some (plus o bytes)) (sym none ∙ ap (at old) ((bytes_decides key q).0 e))
+      same true e = ap (λ o. Some (plus o more)) (sym none ∙ ap (at old) ((bytes_decides key q).0 e))

@@ -1,10 +1,10 @@
 -- What is kept of rows.
-use Rattle.std.proofs.Common.{◌≡◌, ℕ, List, [], ◌++◌, Bool, true, false, Option, Some, None, refl, sym, ap, subst, ◌∙◌}
+use Rattle.std.proofs.Common.{◌≡◌, ℕ, List, [], ◌++◌, Bool, true, false, Option, Some, None, refl, sym, subst}
 use Rattle.std.specs.Io.KnownBytes.{Appends}
 use Rattle.std.specs.List.{flat_map}
 use Rattle.ether_capture.specs.CountTable.{count_at}
-use Rattle.ether_capture.specs.RowFields.{lines_counts, lines_of, with_total}
-use Rattle.ether_capture.specs.Statistics.{AreRows, is_joint, Shows, StatisticsRow, statistics_line}
+use Rattle.ether_capture.specs.RowFields.{lines_counts, lines_of}
+use Rattle.ether_capture.specs.Statistics.{AreRows, Shows, StatisticsRow, statistics_line}
 use Rattle.ether_capture.specs.declared.statistics_format.StatisticsFormat.{StatisticsFormat}
 use Rattle.ether_capture.specs.Journal.{known_if}
 use Rattle.ether_capture.specs.HeldRows.{HoldsRows}
@@ -31,18 +31,16 @@ kept_after joint true false (Some text) (Some more) bytes old new going kept app
 -- what is written of them
 pub shown : (joint is_known failed : Bool) (holds : Option (List ℕ)) (rows counted : Rows) (format : StatisticsFormat)
     (held out : Option (List ℕ)) (lines : List StatisticsRow)
-    → HoldsRows joint is_known failed holds rows → failed ≡ false → is_joint format ≡ joint
-    → count_at counted.counts ≡ with_total rows.total (count_at rows.counts)
+    → HoldsRows joint is_known failed holds rows → failed ≡ false
+    → ((text : List ℕ) → Tabulates joint text rows → (q : List ℕ)
+    → count_at counted.counts q ≡ lines_counts joint (lines_of text) q)
     → AreRows (count_at counted.counts) lines → Appends held out (flat_map (statistics_line format) lines)
-    → Shows is_known holds format held out
-shown joint false failed holds rows counted format held out lines kept going is total are appends = tt
-shown joint true true holds rows counted format held out lines kept going is total are appends = absurd cc
-shown joint true false None rows counted format held out lines kept going is total are appends = absurd kept
-shown joint true false (Some text) rows counted format held out lines kept going is total are appends =
-    let same : count_at counted.counts ≡ lines_counts (is_joint format) (lines_of text) =
-    total ∙ (λ i. with_total (kept.0.1.1 i) (λ key. kept.0.1.0 key i))
-    ∙ ap (λ b. lines_counts b (lines_of text)) (sym is) in (
-      flat_map (statistics_line format) lines,
-      record { rows = lines; are_rows = subst (λ t. AreRows t lines) same are; is_text = refl },
-      appends,
-    )
+    → Shows is_known joint holds format held out
+shown joint false failed holds rows counted format held out lines kept going total are appends = tt
+shown joint true true holds rows counted format held out lines kept going total are appends = absurd cc
+shown joint true false None rows counted format held out lines kept going total are appends = absurd kept
+shown joint true false (Some text) rows counted format held out lines kept going total are appends = (
+  flat_map (statistics_line format) lines,
+  record { rows = lines; are_rows = subst (λ t. AreRows t lines) (λ i q. total text kept q i) are; is_text = refl },
+  appends,
+)

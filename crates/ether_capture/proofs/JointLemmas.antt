@@ -1,13 +1,14 @@
 -- The texts of all columns of a row together.
-use Rattle.std.proofs.Common.{◌≡◌, ℕ, ◌≤◌, List, [], ◌∷◌, ◌++◌, length, Bool, true, false, Option, Some, None, refl, sym, ap, subst, ◌∙◌, append_assoc, append-nil, arith}
-use Rattle.std.specs.Prelude.{◌==◌, ◌^◌, ◌-◌, ◌≢◌, if◌then◌else◌, unwrap_or}
+use Rattle.std.proofs.Common.{◌≡◌, ℕ, List, [], ◌∷◌, ◌++◌, length, Bool, true, false, Option, Some, None, refl, sym, ap, subst, ◌∙◌, append_assoc, arith}
+use Rattle.std.specs.Prelude.{◌==◌, ◌≢◌, if◌then◌else◌, unwrap_or}
 use Rattle.std.specs.List.{flat_map}
 use Rattle.std.proofs.lemmas.Bool.{eqb-true}
 use Rattle.ether_capture.specs.declared.count.Count.{Count}
-use Rattle.ether_capture.specs.KeyCounts.{AddsHit, CountHits, Hit}
-use Rattle.ether_stream.specs.Packets.{counted}
-use Rattle.ether_capture.specs.RowFields.{are_empty, decimal_value, fields_hits, fields_if, hits_under, joined, joint_keys, key_text, last_piece, pieces, row_fields, row_hits}
-use Rattle.ether_capture.proofs.KeyCountLemmas.{hits_more}
+use Rattle.ether_capture.specs.KeyCounts.{AddsHit, Hit}
+use Rattle.ether_capture.specs.RowFields.{after_first, are_empty, fields_if, joined, key_text, last_piece, pieces, row_fields}
+use Rattle.ether_capture.specs.Waiting.{Adds, hits_of, spread}
+use Rattle.ether_capture.proofs.KeyCountLemmas.{Fits}
+use Rattle.ether_capture.proofs.WaitingLemmas.{adds_none, adds_one}
 
 -- ---- fields with tabs between them are the text
 
@@ -49,38 +50,33 @@ pub one_not_empty : (left text : List ℕ) (later : Option (List ℕ)) → row_f
 one_not_empty left [] later is some = absurd (some refl)
 one_not_empty left (b ∷ bs) later is some = ap are_empty is
 
--- ---- the packet counts once, if any is not empty
+-- ---- packets count once, if any text is not empty
 
-module _ (heading row column len : List ℕ) (columns fields : Option (List ℕ)) (bytes : ℕ)
-    (is : bytes ≡ counted (decimal_value 0 len)) (of_heading : row_fields heading ≡ column ∷ fields_if columns)
-    (of_row : row_fields row ≡ len ∷ fields_if fields) (hits : List Hit) where
-  together : row_hits true heading row ≡ hits_under bytes (joint_keys (fields_if columns) (fields_if fields))
-  together =
-      (λ i. fields_hits true (of_heading i) (of_row i))
-      ∙ ap (λ n. hits_under n (joint_keys (fields_if columns) (fields_if fields))) (sym is)
+pub none_together : (heading texts : List ℕ) (count : Count) (table : List ℕ → Option Count)
+    → are_empty (row_fields texts) ≡ true
+    → Adds (spread true heading (record { key = texts; count = count })) table table
+none_together heading texts count table e =
+    subst (λ l. Adds l table table)
+    (ap (λ (b : Bool). hits_of count
+    (if b then [] else key_text (joined (after_first (row_fields heading))) (joined (row_fields texts)) ∷ [])) (sym e))
+    (adds_none table)
 
-  by_emptiness : (b : Bool) → are_empty (fields_if fields) ≡ b
-      → row_hits true heading row
-      ≡ hits_under bytes (if b then [] else key_text (joined (fields_if columns)) (joined (fields_if fields)) ∷ [])
+module _ (heading texts column : List ℕ) (columns : Option (List ℕ)) (count : Count)
+    (of_heading : row_fields heading ≡ column ∷ fields_if columns) where
+  by_emptiness : (b : Bool) → are_empty (row_fields texts) ≡ b
+      → spread true heading (record { key = texts; count = count })
+      ≡ hits_of count (if b then [] else key_text (unwrap_or columns []) texts ∷ [])
   by_emptiness b e =
-      together
-      ∙ ap (λ (c : Bool). hits_under bytes
-      (if c then [] else key_text (joined (fields_if columns)) (joined (fields_if fields)) ∷ [])) e
+      (λ i. hits_of count
+      (if e i then [] else key_text (joined (after_first (of_heading i))) (joined_fields texts i) ∷ []))
+      ∙ ap (λ l. hits_of count (if b then [] else key_text l texts ∷ [])) (joined_if columns)
 
-  pub none_together : (table : List ℕ → Option Count) → are_empty (fields_if fields) ≡ true → CountHits hits table
-      → CountHits (hits ++ row_hits true heading row) table
-  none_together table e so_far =
-      subst (λ l. CountHits l table) (sym (append-nil hits) ∙ ap (λ l. hits ++ l) (sym (by_emptiness true e))) so_far
-
-  pub one_together : (names : List ℕ) (texts : List ℕ) (old new : List ℕ → Option Count)
-      → names ≡ unwrap_or columns [] → fields ≡ Some texts → are_empty (row_fields texts) ≡ false
-      → bytes ≤ 2 ^ 64 - 1 → CountHits hits old → AddsHit (key_text names texts) bytes old new
-      → CountHits (hits ++ row_hits true heading row) new
-  one_together names texts old new named some e small so_far more =
-      let h : Hit = record { key = key_text names texts; bytes = bytes } in
-      let n : joined (fields_if columns) ≡ names = joined_if columns ∙ sym named in
-      let t : joined (fields_if fields) ≡ texts = joined_if fields ∙ ap (λ o. unwrap_or o []) some in
-      let key : row_hits true heading row ≡ h ∷ [] =
-      by_emptiness false (ap (λ o. are_empty (fields_if o)) some ∙ e)
-      ∙ (λ i. record { key = key_text (n i) (t i); bytes = bytes } ∷ []) in
-      subst (λ l. CountHits (hits ++ l) new) (sym key) (hits_more hits h old new small so_far more)
+  pub one_together : (names : List ℕ) (old new : List ℕ → Option Count) → names ≡ unwrap_or columns []
+      → are_empty (row_fields texts) ≡ false → Fits count
+      → AddsHit (record { key = key_text names texts; count = count }) old new
+      → Adds (spread true heading (record { key = texts; count = count })) old new
+  one_together names old new named e fits more =
+      let h : Hit = record { key = key_text names texts; count = count } in
+      subst (λ l. Adds l old new)
+      (ap (λ l. hits_of count (key_text l texts ∷ [])) named ∙ sym (by_emptiness false e))
+      (adds_one h old new fits more)

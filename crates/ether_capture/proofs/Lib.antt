@@ -11,3 +11,9 @@ pub mod RowsLemmas
 pub mod HeldRowsLemmas
 pub mod StatisticsLemmas
 pub mod OneStatistics
+pub mod LackLemmas
+pub mod MergingLemmas
+pub mod MergeLawLemmas
+pub mod MergerLemmas
+pub mod WaitingLemmas
+pub mod ResultLemmas

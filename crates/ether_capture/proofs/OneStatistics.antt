@@ -14,12 +14,12 @@ use Rattle.std.proofs.lemmas.Map.Text.{is_eq-slice_cmp}
 use Rattle.ether_capture.specs.declared.count.Count.{Count}
 use Rattle.ether_capture.specs.declared.statistics_format.StatisticsFormat.{StatisticsFormat}
 use Rattle.ether_capture.specs.RowFields.{lines_counts, lines_of}
-use Rattle.ether_capture.specs.Statistics.{AreRows, IsStatistics, StatisticsRow, is_joint, statistics_line}
+use Rattle.ether_capture.specs.Statistics.{AreRows, IsStatistics, StatisticsRow, statistics_line}
 
-abbrev order : List ℕ → List ℕ → Ordering
+abbrev pub order : List ℕ → List ℕ → Ordering
 order = slice_cmp nat_cmp
 
-abbrev found : List ℕ → List (List ℕ × Count) → Option Count
+abbrev pub found : List ℕ → List (List ℕ × Count) → Option Count
 found q es = lookup (λ k. is_eq (order q k)) es
 
 self_equal : (k : List ℕ) → order k k ≡ Equal
@@ -33,12 +33,12 @@ self_equal k = by (order k k) (nat_list_cmp_total.antisymm k k)
 head_found : (e : List ℕ × Count) (es : List (List ℕ × Count)) → found e.0 (e ∷ es) ≡ Some e.1
 head_found e es = λ i. cond (is_eq (self_equal e.0 i)) (Some e.1) (found e.0 es)
 
-none_above : (q : List ℕ) (es : List (List ℕ × Count)) → AllByRecursion (λ k. order q k ≡ Less) (keys_of es)
+pub none_above : (q : List ℕ) (es : List (List ℕ × Count)) → AllByRecursion (λ k. order q k ≡ Less) (keys_of es)
     → found q es ≡ None
 none_above q [] all = refl
 none_above q (e ∷ es) all = (λ i. cond (is_eq (all.0 i)) (Some e.1) (found q es)) ∙ none_above q es all.1
 
-all_less : (a b : List ℕ) → order a b ≡ Less → (ks : List (List ℕ)) → AllByRecursion (λ k. order b k ≡ Less) ks
+pub all_less : (a b : List ℕ) → order a b ≡ Less → (ks : List (List ℕ)) → AllByRecursion (λ k. order b k ≡ Less) ks
     → AllByRecursion (λ k. order a k ≡ Less) ks
 all_less a b less [] all = tt
 all_less a b less (k ∷ ks) all = (nat_list_cmp_total.trans a b k less all.0, all_less a b less ks all.1)
@@ -72,7 +72,7 @@ tails_same e f es fs s t key same q = by (is_eq (order q e.0)) refl
         let other : is_eq (order q f.0) ≡ false = ap (λ k. is_eq (order q k)) (sym key) ∙ is in
         (λ i. cond (sym is i) (Some e.1) (found q es)) ∙ same q ∙ (λ i. cond (other i) (Some f.1) (found q fs))
 
-some_count : (a b : Count) → Some a ≡ Some b → a ≡ b
+pub some_count : (a b : Count) → Some a ≡ Some b → a ≡ b
 some_count a b e = ap (λ (o : Option Count). unwrap_or o a) e
 
 one_list : (es fs : List (List ℕ × Count)) → IsStrictlySortedBy order (keys_of es)
@@ -97,7 +97,7 @@ one_list (e ∷ es) (f ∷ fs) s t same =
         let value = some_count e.1 f.1 count in
         λ i. (key i, value i) ∷ tail (tails_same e f es fs s t key same) i
 
-abbrev entry_of : StatisticsRow → List ℕ × Count
+abbrev pub entry_of : StatisticsRow → List ℕ × Count
 entry_of r = (r.key, r.count)
 
 abbrev row_back : List ℕ × Count → StatisticsRow
@@ -107,11 +107,11 @@ rows_back : (rows : List StatisticsRow) → map row_back (map entry_of rows) ≡
 rows_back [] = refl
 rows_back (r ∷ rs) = ap (λ l. r ∷ l) (rows_back rs)
 
-keys_same : (rows : List StatisticsRow) → map (λ r. r.key) rows ≡ keys_of (map entry_of rows)
+pub keys_same : (rows : List StatisticsRow) → map (λ r. r.key) rows ≡ keys_of (map entry_of rows)
 keys_same [] = refl
 keys_same (r ∷ rs) = ap (λ l. r.key ∷ l) (keys_same rs)
 
-found_same : (q : List ℕ) (es : List (List ℕ × Count)) → found q es ≡ lookup (bytes_eq q) es
+pub found_same : (q : List ℕ) (es : List (List ℕ × Count)) → found q es ≡ lookup (bytes_eq q) es
 found_same q es = λ i. lookup (λ k. is_eq-slice_cmp q k i) es
 
 one_table : (table : List ℕ → Option Count) (rows others : List StatisticsRow) → AreRows table rows
@@ -123,9 +123,9 @@ one_table table rows others a b =
     (λ q. found_same q (map entry_of rows) ∙ a.exact q ∙ sym (b.exact q) ∙ sym (found_same q (map entry_of others))) in
     sym (rows_back rows) ∙ ap (map row_back) same ∙ rows_back others
 
-pub one_statistics : (format : StatisticsFormat) (text a b : List ℕ) → IsStatistics format text a
-    → IsStatistics format text b → a ≡ b
-one_statistics format text a b s t =
+pub one_statistics : (joint : Bool) (format : StatisticsFormat) (text a b : List ℕ) → IsStatistics joint format text a
+    → IsStatistics joint format text b → a ≡ b
+one_statistics joint format text a b s t =
     s.is_text ∙ ap (flat_map (statistics_line format))
-    (one_table (lines_counts (is_joint format) (lines_of text)) s.rows t.rows s.are_rows t.are_rows)
+    (one_table (lines_counts joint (lines_of text)) s.rows t.rows s.are_rows t.are_rows)
     ∙ sym t.is_text

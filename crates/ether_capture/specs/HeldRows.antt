@@ -5,6 +5,7 @@ use Rattle.ether_capture.specs.CountTable.{count_at}
 use Rattle.ether_capture.specs.KeyCounts.{count_of}
 use Rattle.ether_capture.specs.RowFields.{lines_hits, lines_of, total_of}
 use Rattle.ether_capture.specs.Tabulating.{HasHeading, Tabulates}
+use Rattle.ether_capture.specs.Waiting.{join, spreads, waiting}
 use Rattle.ether_capture.specs.declared.count.Count.{Count}
 use Rattle.ether_capture.specs.declared.rows.Rows.{Rows}
 
@@ -34,7 +35,9 @@ HoldsRows-prop joint true false None rows = λ x y. absurd x
 HoldsRows-prop joint true false (Some text) rows =
     ×_prop
     (×_prop (heading-prop (lines_of text) rows)
-    (×_prop (Π_prop (λ key. Coded-set (coded_option count_code) (count_at rows.counts key)
+    (×_prop (Π_prop (λ key. Coded-set (coded_option count_code)
+    (join (count_at rows.counts key)
+    (count_of (spreads joint rows.heading.bytes.items (waiting rows.slots.items)) key))
     (count_of (lines_hits joint (lines_of text)) key)))
     (Coded-set count_code rows.total (total_of (lines_of text)))))
     (Coded-set (coded_list coded_ℕ) _ _)

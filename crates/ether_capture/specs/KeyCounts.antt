@@ -1,5 +1,5 @@
 -- How many packets have a key, and how many bytes these had.
-use Rattle.std.specs.Prelude.{◌≡◌, ℕ, ◌+◌, List, [], ◌∷◌, length, filter, Option, Some, None, if◌then◌else◌}
+use Rattle.std.specs.Prelude.{◌≡◌, ℕ, ◌+◌, List, [], ◌∷◌, filter, Option, Some, None, if◌then◌else◌}
 use Rattle.std.specs.Str.{bytes_eq}
 use Rattle.std.specs.List.{sum_by}
 use Rattle.ether_stream.specs.Packets.{counted}
@@ -7,24 +7,32 @@ use Rattle.ether_capture.specs.declared.count.Count.{Count}
 
 -- ---- what is counted
 
--- a packet that had `bytes` bytes, and has a key
+-- packets that have a key
 pub record Hit : Type 0 where
   pub key : List ℕ
-  pub bytes : ℕ
+  pub count : Count
 
--- a count with another packet
-abbrev pub plus : Option Count → ℕ → Count
-plus None bytes = record { packets = 1; bytes = bytes }
-plus (Some c) bytes = record { packets = counted (c.packets + 1); bytes = counted (c.bytes + bytes) }
+-- one packet, which had `bytes` bytes
+abbrev pub one_packet : (bytes : ℕ) → Count
+one_packet bytes = record { packets = 1; bytes = bytes }
 
-abbrev pub AddsHit : (key : List ℕ) → (bytes : ℕ) → (old new : List ℕ → Option Count) → Type 0
-AddsHit key bytes old new = (q : List ℕ) → new q ≡ (if bytes_eq key q then Some (plus (old q) bytes) else old q)
+-- a count with more packets
+abbrev pub plus : Option Count → Count → Count
+plus None more = more
+plus (Some c) more = record { packets = counted (c.packets + more.packets); bytes = counted (c.bytes + more.bytes) }
+
+abbrev pub AddsHit : Hit → (old new : List ℕ → Option Count) → Type 0
+AddsHit h old new = (q : List ℕ) → new q ≡ (if bytes_eq h.key q then Some (plus (old q) h.count) else old q)
 
 -- how many these are, if there are any
 abbrev pub sum_of : List Hit → Option Count
 sum_of [] = None
 sum_of (h ∷ hs) =
-    Some (record { packets = counted (length (h ∷ hs)); bytes = counted (sum_by (λ k. k.bytes) (h ∷ hs)) })
+    Some
+    (record {
+      packets = counted (sum_by (λ k. k.count.packets) (h ∷ hs));
+      bytes = counted (sum_by (λ k. k.count.bytes) (h ∷ hs));
+    })
 
 -- .. with a key
 abbrev pub count_of : List Hit → (key : List ℕ) → Option Count

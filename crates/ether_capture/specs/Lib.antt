@@ -9,7 +9,10 @@ pub mod SeveralFiles
 pub mod KeyCounts
 pub mod CountTable
 pub mod RowFields
+pub mod Waiting
 pub mod Tabulating
 pub mod Journal
 pub mod HeldRows
 pub mod Statistics
+pub mod Merging
+pub mod Merges

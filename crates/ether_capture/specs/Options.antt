@@ -34,8 +34,9 @@ use Rattle.ether_stream.specs.Task.{TaskValue, FormValue, Lines, Copy, task_view
 use Rattle.ether_capture.specs.OptionTable.{all_options, is_added, option_rule}
 use Rattle.ether_capture.specs.WrongWords.{IsUsageOf}
 use Rattle.ether_capture.specs.declared.request.Asked.{Asked}
-use Rattle.ether_capture.specs.declared.request.Heading.{Heading}
-use Rattle.ether_capture.specs.declared.request.Heading.TheVariants.{Absent, Line, Statistics}
+use Rattle.ether_capture.specs.declared.heading.Heading.{Heading}
+use Rattle.ether_capture.specs.declared.heading.Heading.TheVariants.{Absent, Line, Statistics}
+use Rattle.ether_capture.specs.declared.statistics_format.Counting.{Counting}
 use Rattle.ether_capture.specs.declared.statistics_format.StatisticsFormat.{StatisticsFormat}
 use Rattle.ether_capture.specs.declared.statistics_format.StatisticsFormat.TheVariants as counts
 use Rattle.ether_capture.specs.declared.request.Listing.{Listing}
@@ -63,10 +64,11 @@ listing_view l = record {
 }
 
 -- this is made of the capture in the file of this name, or of standard input, and goes to the file of that name, or to
--- standard output, with this heading; or lines of several captures; the usage; the version
+-- standard output, with this heading; or lines of several captures; the sums of counts; the usage; the version
 pub data RequestValue : Type 0 where
   Run : TaskValue → (heading : Heading) → (input output : Option Text) → RequestValue
   Lists : ListingValue → RequestValue
+  Merges : (format : StatisticsFormat) → RequestValue
   Help : RequestValue
   Version : RequestValue
 
@@ -74,6 +76,7 @@ abbrev pub request_view : Request → RequestValue
 request_view (requests.Run job) =
     Run (task_view job.task) job.heading (option_map (λ s. s.now) job.input) (option_map (λ s. s.now) job.output)
 request_view (requests.List listing) = Lists (listing_view listing)
+request_view (requests.Merge format) = Merges format
 request_view requests.Help = Help
 request_view requests.Version = Version
 
@@ -83,9 +86,9 @@ format_in Absent = None
 format_in (Line format) = Some format
 format_in (Statistics counting columns) = Some (Fields columns)
 
--- how counts are written
-abbrev pub statistics_in : Heading → Option StatisticsFormat
-statistics_in (Statistics format columns) = Some format
+-- how packets are counted
+abbrev pub statistics_in : Heading → Option Counting
+statistics_in (Statistics counting columns) = Some counting
 statistics_in heading = None
 
 abbrev pub heading_in : RequestValue → Heading
@@ -93,7 +96,7 @@ heading_in (Run task heading input output) = heading
 heading_in (Lists l) = l.heading
 heading_in request = Absent
 
-abbrev pub statistics_asked : RequestValue → Option StatisticsFormat
+abbrev pub statistics_asked : RequestValue → Option Counting
 statistics_asked request = statistics_in (heading_in request)
 
 -- ---- the program's options
@@ -128,6 +131,7 @@ pub record AskedValue : Type 0 where
   pub by : Option Columns
   pub header : Bool
   pub stats : Bool
+  pub merge : Bool
   pub counted : Option Columns
   pub input : Option Text
   pub output : Option Text
@@ -176,6 +180,7 @@ pub record Asks (rows : List Row) (a : AskedValue) : Type 0 where
   pub by : IsIfAny AreFields (first_of (codes "by") rows) a.by
   pub header : a.header ≡ is_set (codes "header") rows
   pub stats : a.stats ≡ is_set (codes "stats") rows
+  pub merge : a.merge ≡ is_set (codes "merge") rows
   pub counted : AreCountedColumns a.stats (first_columns a.by a.fields) a.counted
   pub input : a.input ≡ first_of (codes "read") rows
   pub output : a.output ≡ first_of (codes "output") rows
@@ -217,12 +222,16 @@ format_asked a =
     option_map_or (λ columns. Some (if is_csv a.format then Csv columns else Fields columns)) (columns_asked a)
     (format_named a.format)
 
--- counts of the texts of columns: of all columns together; or of each, as lines of fields or of JSON
+-- counts are lines of JSON, or of fields
+abbrev pub statistics_format_of : Option FormatName → StatisticsFormat
+statistics_format_of (Some names.Json) = counts.Json
+statistics_format_of format = counts.Text
+
+-- counts of the texts of columns: of all columns together, or of each
 abbrev pub statistics_of : (joint : Bool) → (format : Option FormatName) → (columns : Option Columns) → Heading
 statistics_of joint format None = Absent
-statistics_of true format (Some columns) = Statistics counts.Joint columns
-statistics_of false (Some names.Json) (Some columns) = Statistics counts.Json columns
-statistics_of false format (Some columns) = Statistics counts.Text columns
+statistics_of joint format (Some columns) =
+    Statistics (record { is_joint = joint; format = statistics_format_of format }) columns
 
 -- a line of their names
 abbrev pub line_of : Option Format → Heading
@@ -261,9 +270,25 @@ clashes_with_copy a =
     if makes_copy a then a.plain || (is_some a.limit || is_some (format_asked a)) else a.plain
     && is_some (format_asked a)
 
+-- packets are chosen, or a capture is
+abbrev pub chooses_packets : AskedValue → Bool
+chooses_packets a = is_some a.text || (is_some a.count || is_some a.input)
+
+-- something is made of packets
+abbrev pub makes_packets : AskedValue → Bool
+makes_packets a = makes_copy a || (a.plain || (a.stats || (is_some a.limit || is_some a.fields)))
+
+-- .. in a form that sums of counts do not have, or their faults count
+abbrev pub forms_packets : AskedValue → Bool
+forms_packets a = is_some a.status_on_fault || (is_brief a.format || is_csv a.format)
+
+-- sums of counts are made of no capture
+abbrev pub clashes_with_merge : AskedValue → Bool
+clashes_with_merge a = a.merge && (chooses_packets a || (makes_packets a || forms_packets a))
+
 -- an option is asked for that does not go with the others
 abbrev pub clashes : AskedValue → Bool
-clashes a = clashes_with_copy a || clashes_in_columns a
+clashes a = clashes_with_copy a || (clashes_in_columns a || clashes_with_merge a)
 
 abbrev pub edit_option : EditValue → DependentOption
 edit_option CutToHeaders = dependent.CutToHeaders
@@ -291,9 +316,11 @@ abbrev pub second_name : List Text → Option Text
 second_name [] = None
 second_name (name ∷ names) = first_name names
 
--- a name of one file too many: no other is named with `-r`, and a copy is of one file
+-- a name of one file too many: no other is named with `-r`, sums are of no file, and a copy is of one
 abbrev pub surplus : AskedValue → Option Text
-surplus a = if is_some a.input then first_name a.files else (if makes_copy a then second_name a.files else None)
+surplus a =
+    if is_some a.input || a.merge then first_name a.files
+    else (if makes_copy a then second_name a.files else None)
 
 -- the name of a file, unless it is `-`, for a standard stream
 abbrev pub named : Text → Option Text
@@ -369,7 +396,8 @@ output_of a = option_and_then named a.output
 -- what is asked for
 abbrev pub request_for : AskedValue → (select : Option Selection) → RequestValue
 request_for a s =
-    if are_several a.files
+    if a.merge then Merges (statistics_format_of a.format)
+    else if are_several a.files
     then Lists (record { select = s; count = a.count; options = options_of a; heading = heading_of a; files = a.files })
     else Run (record { select = s; count = a.count; form = form_of a }) (heading_of a) (input_of a) (output_of a)
 
@@ -474,6 +502,7 @@ asked_view asked = record {
   by = asked.by;
   header = asked.has_header;
   stats = asked.is_counted;
+  merge = asked.is_merge;
   counted = asked.counted;
   input = option_map (λ s. s.now) asked.input;
   output = option_map (λ s. s.now) asked.output;

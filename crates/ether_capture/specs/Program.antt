@@ -3,7 +3,7 @@ use Rattle.std.specs.Prelude.{◌≡◌, ◌⊎◌, ℕ, List, [], Option, Some,
 use Rattle.std.specs.Vec.Iter.{into_iter_items}
 use Rattle.std.specs.declared.vec.IntoIter.{IntoIter}
 use Rattle.std.specs.Io.KnownBytes.{Appends}
-use Rattle.ether_capture.specs.Options.{RequestValue, Run, Lists, Help, Version, NamesRequest, RefusesWords, format_in, heading_in, statistics_asked}
+use Rattle.ether_capture.specs.Options.{RequestValue, Run, Lists, Merges, Help, Version, NamesRequest, RefusesWords, format_in, heading_in, statistics_asked}
 use Rattle.ether_capture.specs.declared.request.RequestError.{RequestError}
 use Rattle.ether_capture.specs.declared.request.RequestError.TheVariants as reasons
 use Rattle.ether_capture.specs.Copies.{HasRead, IsCopied}
@@ -16,8 +16,9 @@ use Rattle.ether_stream.specs.declared.outcome.Outcome.{Outcome}
 use Rattle.ether_stream.specs.declared.outcome.Outcome.TheVariants as outcomes
 use Rattle.ether_stream.specs.declared.outcome.RunFault.TheVariants.{Input, Output}
 use Rattle.ether_capture.specs.Journal.{known_if}
+use Rattle.ether_capture.specs.Merging.{HasMerged}
 use Rattle.ether_capture.specs.Statistics.{Shows}
-use Rattle.ether_capture.specs.declared.statistics_format.StatisticsFormat.{StatisticsFormat}
+use Rattle.ether_capture.specs.declared.statistics_format.Counting.{Counting}
 use Rattle.ether_format.specs.Texts.{format_heading}
 use Rattle.ether_format.specs.declared.format.Format.{Format}
 
@@ -82,6 +83,9 @@ abbrev pub HasAnswered : World → RequestValue → (before after : Streams) →
 HasAnswered w (Run task heading input output) before after outcome =
     HasRunJob w.reading w.kept task input output before after outcome
 HasAnswered w (Lists l) before after (outcomes.Files end) = HasListed w.reading w.can_tell l before after end
+HasAnswered w (Merges format) before after outcome =
+    HasMerged w.reading.can_fail w.reading.can_write format before.input after.input before.output after.output outcome
+    × (after ≡ record before { input = after.input; output = after.output })
 HasAnswered w Help before after outcomes.Help = after ≡ before
 HasAnswered w Version before after outcomes.Version = after ≡ before
 HasAnswered w request before after outcome = ⊥
@@ -114,21 +118,22 @@ is_unwritten outcome = false
 -- What is asked for was done, but rows were not written: their texts were counted, as the journal knows them, and the
 -- counts were. Or memory for these was refused. Or the writer, which can fail, has failed: this is the outcome for no
 -- other reason.
-pub record HasCountedTexts (w : World) (format : StatisticsFormat) (request : RequestValue) (before after : Streams)
+pub record HasCountedTexts (w : World) (counting : Counting) (request : RequestValue) (before after : Streams)
     (outcome : Outcome)
     : Type 0 where
   pub rows : Option (List ℕ)
   pub end : Outcome
   pub done : HasHeaded (record w { reading = record w.reading { can_write = ⊤ } }) request
       (record before { output = known_if w.is_known }) (record after { output = rows }) end
-  pub shown : ((outcome ≡ end) × (is_unwritten end ≡ false) × Shows w.is_known rows format before.output after.output)
+  pub shown : ((outcome ≡ end) × (is_unwritten end ≡ false)
+      × Shows w.is_known counting.is_joint rows counting.format before.output after.output)
       ⊎ (((outcome ≡ outcomes.NoMemory) × (after.output ≡ before.output))
       ⊎ ((outcome ≡ outcomes.Run (Err Output)) × w.reading.can_write))
 
 -- what is asked for was done
-abbrev pub HasDone : World → Option StatisticsFormat → RequestValue → (before after : Streams) → Outcome → Type 0
+abbrev pub HasDone : World → Option Counting → RequestValue → (before after : Streams) → Outcome → Type 0
 HasDone w None = HasHeaded w
-HasDone w (Some format) = HasCountedTexts w format
+HasDone w (Some counting) = HasCountedTexts w counting
 
 -- how the program answers arguments that ask for nothing
 abbrev pub refusal_outcome : RequestError → Outcome

@@ -2,7 +2,7 @@
 use Rattle.std.specs.Prelude.{◌==◌, ℕ, ◌+◌, ◌-◌, ◌*◌, List, [], ◌∷◌, ◌++◌, codes, length, map, Bool, true, false, Option, Some, None, if◌then◌else◌}
 use Rattle.std.specs.List.{flat_map, sum_by}
 use Rattle.std.specs.Str.{bytes_eq}
-use Rattle.ether_capture.specs.KeyCounts.{Hit, count_of}
+use Rattle.ether_capture.specs.KeyCounts.{Hit, count_of, one_packet}
 use Rattle.ether_stream.specs.Packets.{counted}
 use Rattle.ether_capture.specs.declared.count.Count.{Count}
 
@@ -57,7 +57,7 @@ after_first (f ∷ fs) = fs
 
 -- a packet that had `bytes` bytes, under each key
 abbrev pub hits_under : (bytes : ℕ) → (keys : List (List ℕ)) → List Hit
-hits_under bytes keys = map (λ k. record { key = k; bytes = bytes }) keys
+hits_under bytes keys = map (λ k. record { key = k; count = one_packet bytes }) keys
 
 -- the first column is the length of the packet
 abbrev pub fields_bytes : (fields : List (List ℕ)) → ℕ

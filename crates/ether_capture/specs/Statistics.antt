@@ -11,7 +11,7 @@ use Rattle.ether_capture.specs.RowFields.{after_first, row_fields, lines_counts,
 use Rattle.ether_output.specs.OutputBuffer.{Takes}
 use Rattle.ether_capture.specs.declared.count.Count.{Count}
 use Rattle.ether_capture.specs.declared.statistics_format.StatisticsFormat.{StatisticsFormat}
-use Rattle.ether_capture.specs.declared.statistics_format.StatisticsFormat.TheVariants.{Text, Json, Joint}
+use Rattle.ether_capture.specs.declared.statistics_format.StatisticsFormat.TheVariants.{Text, Json}
 use Rattle.ether_output.specs.declared.output_buffer.OutputBuffer.{OutputBuffer}
 
 -- a key and its count
@@ -23,11 +23,6 @@ abbrev pub first_in : List (List ℕ) → List ℕ
 first_in [] = []
 first_in (f ∷ fs) = f
 
--- all columns are counted together
-abbrev pub is_joint : StatisticsFormat → Bool
-is_joint Joint = true
-is_joint format = false
-
 abbrev pub fields_line : StatisticsRow → List ℕ
 fields_line r =
     r.key ++ (codes "\t" ++ (decimal r.count.packets ++ (codes "\t" ++ (decimal r.count.bytes ++ codes "\n"))))
@@ -35,7 +30,6 @@ fields_line r =
 -- as four fields; or as an object of JSON, where a key is the name of a column and a text
 abbrev pub statistics_line : StatisticsFormat → StatisticsRow → List ℕ
 statistics_line Text r = fields_line r
-statistics_line Joint r = fields_line r
 statistics_line Json r =
     codes "{\"column\":\"" ++ (first_in (row_fields r.key)
     ++ (codes "\",\"value\":\"" ++ (first_in (after_first (row_fields r.key))
@@ -56,20 +50,21 @@ pub record TakesStatistics {W : Type 0} (contents : W → Option (List ℕ)) (ca
   pub taken : Takes contents can_fail old (flat_map (statistics_line format) rows) new
 
 -- this is the summary of the rows in a text, whose first line names the columns
-pub record IsStatistics (format : StatisticsFormat) (text summary : List ℕ) : Type 0 where
+pub record IsStatistics (joint : Bool) (format : StatisticsFormat) (text summary : List ℕ) : Type 0 where
   pub rows : List StatisticsRow
-  pub are_rows : AreRows (lines_counts (is_joint format) (lines_of text)) rows
+  pub are_rows : AreRows (lines_counts joint (lines_of text)) rows
   pub is_text : summary ≡ flat_map (statistics_line format) rows
 
 -- the summary of what is known is appended
-abbrev pub Shows : (is_known : Bool) → (text : Option (List ℕ)) → StatisticsFormat → (held holds : Option (List ℕ))
-    → Type 0
-Shows false text format held holds = ⊤
-Shows true None format held holds = ⊥
-Shows true (Some text) format held holds =
-    (summary : List ℕ) × IsStatistics format text summary × Appends held holds summary
+abbrev pub Shows : (is_known joint : Bool) → (text : Option (List ℕ)) → StatisticsFormat
+    → (held holds : Option (List ℕ)) → Type 0
+Shows false joint text format held holds = ⊤
+Shows true joint None format held holds = ⊥
+Shows true joint (Some text) format held holds =
+    (summary : List ℕ) × IsStatistics joint format text summary × Appends held holds summary
 
 -- the counts of a text are one text
 abbrev pub StatisticsAreOne : Type 0
-StatisticsAreOne = (format : StatisticsFormat) (text a b : List ℕ) → IsStatistics format text a
-    → IsStatistics format text b → a ≡ b
+StatisticsAreOne =
+    (joint : Bool) (format : StatisticsFormat) (text a b : List ℕ) → IsStatistics joint format text a
+    → IsStatistics joint format text b → a ≡ b

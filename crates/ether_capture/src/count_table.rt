@@ -30,16 +30,17 @@ impl CountTable {
         }
     }
 
-    /// Counts a packet that had `bytes` bytes under a key. Returns [`NoMemory`] if memory for the key is refused.
-    pub fn add(&mut self, key: &[u8], bytes: usize) -> Result<(), NoMemory>
-        ensures { OnOk result (AddsHit key.now bytes (count_at self.old) (count_at self.new)) }
+    /// Counts more packets under a key. Returns [`NoMemory`] if memory for the key is refused.
+    pub fn add(&mut self, key: &[u8], more: Count) -> Result<(), NoMemory>
+        ensures { OnOk result (AddsHit (record { key = key.now; count = more }) (count_at self.old)
+            (count_at self.new)) }
     {
         match self.counts.get_mut(key) {
             Some(count) => {
-                *count = count.with(bytes);
+                *count = count.with(more);
                 Ok(())
             }
-            None => self.insert(key, Count::of_packet(bytes)),
+            None => self.insert(key, more),
         }
     }
 

@@ -4,7 +4,8 @@ ghost use Rattle.ether_capture.specs.Options.{RequestValue};
 ghost use Rattle.ether_capture.specs.Program.{HasCountedTexts, is_unwritten};
 ghost use Rattle.ether_capture.specs.World.{Streams, keeps, names, reads, world};
 ghost use Rattle.ether_capture.specs.Statistics.{StatisticsAreOne};
-ghost use Rattle.ether_capture.specs.declared.statistics_format.StatisticsFormat.{StatisticsFormat};
+ghost use Rattle.ether_capture.specs.Merging.{CountsAddUp};
+ghost use Rattle.ether_capture.specs.declared.statistics_format.Counting.{Counting};
 ghost use Rattle.ether_stream.specs.declared.outcome.Outcome.{Outcome};
 
 use crate::captures::Captures;
@@ -20,13 +21,18 @@ pub fn statistics_are_one()
     ensures { StatisticsAreOne }
 {}
 
+/// The counts of the rows of two texts, added up, are those of all rows.
+pub fn counts_add_up()
+    ensures { CountsAddUp }
+{}
+
 /// If counts are asked for, the outcome says that the writer has failed only if that can fail.
 pub fn counts_are_written<J: Journal, C: Captures, K: Copies, R: Source, W: Sink, M: LineSink>(
     _captures: &C,
 )
-    ensures { (format : StatisticsFormat) (request : RequestValue) (before after : Streams) (outcome : Outcome) →
+    ensures { (counting : Counting) (request : RequestValue) (before after : Streams) (outcome : Outcome) →
         HasCountedTexts (world (reads (names (C.has _captures.now) C.can_refuse C.Input.Source.can_fail) R.can_fail
-        W.can_fail) (keeps K.can_refuse K.Part.Sink.can_fail) M.Sink.can_fail J.is_known) format request before after
+        W.can_fail) (keeps K.can_refuse K.Part.Sink.can_fail) M.Sink.can_fail J.is_known) counting request before after
         outcome → is_unwritten outcome ≡ true → W.can_fail }
 {}
 

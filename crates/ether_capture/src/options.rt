@@ -7,8 +7,9 @@ ghost use Rattle.ether_content.specs.EditingViews.{edit_view};
 ghost use Rattle.ether_capture.specs.Options.{Asks, IsEdit, IsWrongEditOf, KindNames, NamesRequest, RefusesKind, RefusesRows, RefusesWords, asked_view, capture_app, file_rule, is_set, request_view};
 ghost use Rattle.ether_capture.specs.OptionTable.{option_rule, option_view, with_option};
 
+use crate::heading::counted_of;
 use crate::option_table::{OptionRow, Spelling, all_options};
-use crate::request::{Asked, Request, RequestError, counted_of, first_of};
+use crate::request::{Asked, Request, RequestError, first_of};
 use crate::wrong_words::usage_of;
 use clap::error::ErrorKind;
 use clap::{Arg, ArgAction, ArgMatches, Command};
@@ -137,6 +138,7 @@ impl<'a> Asked<'a> {
             is_shown: is_set(matches, "progress"),
             has_header: is_set(matches, "header"),
             is_counted,
+            is_merge: is_set(matches, "merge"),
             edit,
             text: text_of(matches, "select"),
             undecided,

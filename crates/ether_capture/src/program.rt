@@ -2,7 +2,7 @@
 ghost use Rattle.std.specs.Prelude.{◌≡◌, ◌≢◌, ◌⊎◌, Bool, true, false, ℕ, List, Option, Some, map, string_bytes};
 ghost use Rattle.std.specs.Option.{option_map};
 ghost use Rattle.ether_stream.specs.Outcome.{is_message, status_of_program};
-ghost use Rattle.ether_capture.specs.Program.{HasCountedTexts, HasDone, HasHeaded, HasObeyed, HasRunFile, HasRunJob, HasServed, IfGone, heading_if, PrintsApart, PrintsLast, arguments_of, is_unwritten};
+ghost use Rattle.ether_capture.specs.Program.{HasDone, HasHeaded, HasObeyed, HasRunFile, HasRunJob, HasServed, IfGone, heading_if, PrintsApart, PrintsLast, arguments_of, is_unwritten};
 ghost use Rattle.ether_capture.specs.SeveralFiles.{Settles};
 ghost use Rattle.ether_capture.specs.Options.{request_view, statistics_asked};
 ghost use Rattle.ether_capture.specs.World.{keeps, names, reads, streams, world};
@@ -10,13 +10,16 @@ ghost use Rattle.std.specs.Io.KnownBytes.{Appends};
 ghost use Rattle.ether_format.specs.declared.format.Format.{Format as FormatValue};
 ghost use Rattle.std.specs.Prelude.{OnErr, OnOk};
 ghost use Rattle.ether_stream.specs.Task.{task_view};
-ghost use Rattle.ether_capture.specs.Statistics.{is_joint};
+ghost use Rattle.ether_capture.specs.Statistics.{Shows};
+ghost use Rattle.ether_stream.specs.declared.outcome.Outcome.TheVariants.{NoMemory, Run};
+ghost use Rattle.ether_stream.specs.declared.outcome.RunFault.TheVariants.{Output};
 
 use crate::captures::Captures;
 use crate::copies::Copies;
 use crate::copy_run::{copy_file, copy_input};
 use crate::grouping::{Each, Grouping, Together};
 use crate::journal::Journal;
+use crate::merge_run::merge_counts;
 use crate::options::request_of_words;
 use crate::request::{Job, Request, RequestError};
 use crate::run_input::run_input;
@@ -128,59 +131,49 @@ fn carry_out_request<
     ensures flushed { IfGone result (Settles W.is_flushed writer.old writer.new) }
     ensures told { Settles M.Sink.is_flushed messages.old messages.new ⊎ M.Sink.can_fail }
 {
-    let Some(format) = request.statistics() else {
+    let Some(counting) = request.statistics() else {
         return write_lines_or_copy(request, alloc, captures, copies, reader, writer, messages);
     };
-    if format.is_joint() {
-        count_rows::<J, Together, C, K, R, W, M>(
-            request, format, alloc, captures, copies, reader, writer, messages,
-        )
+    if counting.is_joint {
+        let mut counts = Statistics::<J, Together>::new(alloc);
+        let outcome = write_lines_or_copy(
+            request,
+            alloc,
+            captures,
+            copies,
+            reader,
+            &mut counts,
+            messages,
+        );
+        write_counts(&mut counts, outcome, counting.format, writer)
     } else {
-        count_rows::<J, Each, C, K, R, W, M>(
-            request, format, alloc, captures, copies, reader, writer, messages,
-        )
+        let mut counts = Statistics::<J, Each>::new(alloc);
+        let outcome = write_lines_or_copy(
+            request,
+            alloc,
+            captures,
+            copies,
+            reader,
+            &mut counts,
+            messages,
+        );
+        write_counts(&mut counts, outcome, counting.format, writer)
     }
 }
 
-/// Counts the texts of columns in place of writing rows, and writes the counts.
-fn count_rows<
-    'a,
-    J: Journal + Drop,
-    G: Grouping,
-    C: Captures,
-    K: Copies,
-    R: Source,
-    W: Sink,
-    M: LineSink,
->(
-    request: Request<'a>,
+/// Writes the counts of a run whose rows were counted, unless memory for these was refused.
+fn write_counts<'a, J: Journal + Drop, G: Grouping, W: Sink>(
+    counts: &mut Statistics<J, G>,
+    outcome: Outcome<'a>,
     format: StatisticsFormat,
-    alloc: Global,
-    captures: &C,
-    copies: &mut K,
-    reader: &mut R,
     writer: &mut W,
-    messages: &mut M,
 ) -> Outcome<'a>
-    requires { is_joint format ≡ G.is_joint }
-    ensures done { HasCountedTexts (world (reads (names (C.has captures.now) C.can_refuse C.Input.Source.can_fail)
-        R.can_fail W.can_fail) (keeps K.can_refuse K.Part.Sink.can_fail) M.Sink.can_fail J.is_known)
-        format (request_view request.entry) (streams (R.remaining reader.old)
-        (W.contents writer.old) (M.Sink.contents messages.old) (K.file copies.old)) (streams (R.remaining reader.new)
-        (W.contents writer.new) (M.Sink.contents messages.new) (K.file copies.new)) result }
+    ensures shown { ((result ≡ outcome.entry) × (is_unwritten outcome.entry ≡ false) × Shows J.is_known G.is_joint
+        (J.Sink.contents counts.old.journal) format (W.contents writer.old) (W.contents writer.new))
+        ⊎ (((result ≡ NoMemory) × (W.contents writer.new ≡ W.contents writer.old))
+        ⊎ ((result ≡ Run (Err Output)) × W.can_fail)) }
     ensures flushed { IfGone result (Settles W.is_flushed writer.old writer.new) }
-    ensures told { Settles M.Sink.is_flushed messages.old messages.new ⊎ M.Sink.can_fail }
 {
-    let mut counts = Statistics::<J, G>::new(alloc);
-    let outcome = write_lines_or_copy(
-        request,
-        alloc,
-        captures,
-        copies,
-        reader,
-        &mut counts,
-        messages,
-    );
     if counts.has_failed() || is_unwritten(&outcome) {
         return Outcome::NoMemory;
     }
@@ -235,6 +228,7 @@ fn write_lines_or_copy<'a, C: Captures, K: Copies, R: Source, W: Sink, M: LineSi
             Ok(()) => Outcome::Files(run_files(listing, alloc, captures, reader, writer, messages)),
             Err(OutputFault) => Outcome::Run(Err(RunFault::Output)),
         },
+        Request::Merge(format) => merge_counts(format, alloc, reader, writer),
         Request::Help => Outcome::Help,
         Request::Version => Outcome::Version,
     }

@@ -5,9 +5,10 @@ ghost use Rattle.std.specs.Option.{is_some, option_map};
 ghost use Rattle.ether_pcap.specs.CopiedUnits.{copy_mode_view};
 ghost use Rattle.ether_stream.specs.Copying.{growth_if};
 ghost use Rattle.ether_stream.specs.Task.{form_view};
-ghost use Rattle.ether_capture.specs.Options.{AreCountedColumns, Fits, IsFaultOf, IsRequestOf, RefusesAsked, are_several, asked_view, edit_option, excuses, first_columns, is_json, lacking, names_input, names_input_twice, surplus, clashes, clashes_in_columns, clashes_with_by, columns_asked, format_in, format_named, is_brief, is_csv, line_of, statistics_asked, statistics_in, statistics_of, form_of, format_asked, heading_of, mode_of, options_of, request_view, input_of, makes_copy, named, output_of, selection_of};
+ghost use Rattle.ether_capture.specs.Options.{Fits, IsFaultOf, IsRequestOf, RefusesAsked, are_several, asked_view, edit_option, excuses, first_columns, is_json, lacking, names_input, names_input_twice, surplus, clashes, clashes_in_columns, clashes_with_by, columns_asked, format_named, is_brief, is_csv, statistics_asked, form_of, format_asked, heading_of, mode_of, options_of, request_view, input_of, makes_copy, named, output_of, selection_of, chooses_packets, clashes_with_merge, clashes_with_copy, forms_packets, makes_packets};
 
-use crate::statistics_format::StatisticsFormat;
+use crate::heading::{Heading, line_of, statistics_format_of, statistics_of};
+use crate::statistics_format::{Counting, StatisticsFormat};
 use ether_content::PacketEdit;
 use ether_filter::{Filter, FilterError};
 use ether_format::{Columns, Format};
@@ -45,21 +46,12 @@ pub enum Request<'a> {
     Run(Job<'a>),
     /// The lines of several captures.
     List(Listing<'a>),
+    /// The sums of counts that were printed.
+    Merge(StatisticsFormat),
     /// How the program is used.
     Help,
     /// The program's name and version.
     Version,
-}
-
-/// What is made of columns.
-#[derive(Clone, Copy, Debug)]
-pub enum Heading {
-    /// Rows, if columns are asked for.
-    Absent,
-    /// A line of their names in this format, and then rows.
-    Line(Format),
-    /// Counts of the texts in the rows, whose first column is the length of the packet.
-    Statistics(StatisticsFormat, Columns),
 }
 
 /// What is made of one capture.
@@ -106,6 +98,7 @@ pub(crate) struct Asked<'a> {
     pub(crate) is_shown: bool,
     pub(crate) has_header: bool,
     pub(crate) is_counted: bool,
+    pub(crate) is_merge: bool,
     pub(crate) edit: Option<PacketEdit>,
     pub(crate) text: Option<&'a str>,
     pub(crate) undecided: Option<Undecided>,
@@ -189,6 +182,7 @@ impl<'a> Asked<'a> {
     {
         match (self.input, self.files.as_slice()) {
             (Some(_), [name, ..]) => Some(*name),
+            (None, [name, ..]) if self.is_merge => Some(*name),
             (None, [_, name, ..]) if self.is_copy() => Some(*name),
             _ => None,
         }
@@ -198,13 +192,49 @@ impl<'a> Asked<'a> {
     fn clashes(&self) -> bool
         ensures { result ≡ clashes (asked_view self.now) }
     {
-        if self.clashes_in_columns() {
-            return true;
-        }
+        self.clashes_with_copy() || self.clashes_in_columns() || self.clashes_with_merge()
+    }
+
+    /// Tests that a copy is asked for with options of lines, or lines that are plain in another format.
+    fn clashes_with_copy(&self) -> bool
+        ensures { result ≡ clashes_with_copy (asked_view self.now) }
+    {
         if self.is_copy() {
             return self.is_plain || self.limit.is_some() || self.has_format();
         }
         self.is_plain && self.has_format()
+    }
+
+    /// Tests that sums of counts are asked for with an option of captures.
+    fn clashes_with_merge(&self) -> bool
+        ensures { result ≡ clashes_with_merge (asked_view self.now) }
+    {
+        self.is_merge && (self.chooses_packets() || self.makes_packets() || self.forms_packets())
+    }
+
+    /// Tests that packets or a capture are chosen.
+    fn chooses_packets(&self) -> bool
+        ensures { result ≡ chooses_packets (asked_view self.now) }
+    {
+        self.text.is_some() || self.count.is_some() || self.input.is_some()
+    }
+
+    /// Tests that something is to be made of packets.
+    fn makes_packets(&self) -> bool
+        ensures { result ≡ makes_packets (asked_view self.now) }
+    {
+        self.is_copy()
+            || self.is_plain
+            || self.is_counted
+            || self.limit.is_some()
+            || self.fields.is_some()
+    }
+
+    /// Tests that packets are to have a form that sums of counts do not have, or that their faults count.
+    fn forms_packets(&self) -> bool
+        ensures { result ≡ forms_packets (asked_view self.now) }
+    {
+        self.status_on_fault.is_some() || self.is_brief() || self.is_csv()
     }
 
     /// Tests that there is an option of columns that does not go with the others.
@@ -299,6 +329,7 @@ impl<'a> Asked<'a> {
             return Err(RequestError::Usage(usage));
         }
         match filter_of(self.text) {
+            Ok(_) if self.is_merge => Ok(Request::Merge(statistics_format_of(&self.format))),
             Ok(filter) if self.has_several() => Ok(Request::List(Listing {
                 selection: self.selection(filter),
                 count: self.count,
@@ -477,76 +508,15 @@ fn format_named(name: Option<FormatName>) -> Option<Format>
     }
 }
 
-/// Counts of the texts of columns, of each or of all together, in a format.
-fn statistics_of(is_joint: bool, format: &Option<FormatName>, columns: &Option<Columns>) -> Heading
-    ensures { result ≡ statistics_of is_joint format.now columns.now }
-{
-    match (columns, format) {
-        (Some(columns), _) if is_joint => Heading::Statistics(StatisticsFormat::Joint, *columns),
-        (Some(columns), Some(FormatName::Json)) => {
-            Heading::Statistics(StatisticsFormat::Json, *columns)
-        }
-        (Some(columns), _) => Heading::Statistics(StatisticsFormat::Text, *columns),
-        (None, _) => Heading::Absent,
-    }
-}
-
-/// A line of the names of columns in a format.
-fn line_of(format: &Option<Format>) -> Heading
-    ensures { result ≡ line_of format.now }
-{
-    match format {
-        Some(format) => Heading::Line(*format),
-        None => Heading::Absent,
-    }
-}
-
-/// The columns whose texts are counted: the length of the packet, and then these, or common ones. Returns `None` if
-/// nothing is counted, or if these would be more than 32.
-pub(crate) fn counted_of(is_counted: bool, fields: &Option<Columns>) -> Option<Columns>
-    ensures { AreCountedColumns is_counted fields.now result }
-{
-    if !is_counted {
-        return None;
-    }
-    match fields {
-        Some(columns) => columns.after_original(),
-        None => Columns::common().after_original(),
-    }
-}
-
-impl Heading {
-    /// The format of the line of names, if one is written first.
-    pub(crate) fn format(&self) -> Option<Format>
-        ensures { result ≡ format_in self.now }
-    {
-        match self {
-            Heading::Absent => None,
-            Heading::Line(format) => Some(*format),
-            Heading::Statistics(_, columns) => Some(Format::Fields(*columns)),
-        }
-    }
-
-    /// How counts are written, if they are asked for.
-    pub(crate) fn statistics(&self) -> Option<StatisticsFormat>
-        ensures { result ≡ statistics_in self.now }
-    {
-        match self {
-            Heading::Statistics(format, _) => Some(*format),
-            Heading::Absent | Heading::Line(_) => None,
-        }
-    }
-}
-
 impl Request<'_> {
-    /// How counts are written, if they are asked for.
-    pub(crate) fn statistics(&self) -> Option<StatisticsFormat>
+    /// How packets are counted, if that is asked for.
+    pub(crate) fn statistics(&self) -> Option<Counting>
         ensures { result ≡ statistics_asked (request_view self.now) }
     {
         match self {
             Request::Run(job) => job.heading.statistics(),
             Request::List(listing) => listing.heading.statistics(),
-            Request::Help | Request::Version => None,
+            Request::Merge(_) | Request::Help | Request::Version => None,
         }
     }
 }

@@ -2,31 +2,28 @@
 ghost use Rattle.std.specs.Prelude.{◌≡◌};
 ghost use Rattle.ether_capture.specs.RowFields.{after_first, row_fields};
 ghost use Rattle.ether_output.specs.OutputBuffer.{Takes};
-ghost use Rattle.ether_capture.specs.Statistics.{fields_line, first_in, is_joint, statistics_line};
+ghost use Rattle.ether_capture.specs.Statistics.{fields_line, first_in, statistics_line};
 
 use crate::count::Count;
-use crate::rows::first_field;
+use crate::row_counts::first_field;
 use ether_output::{OutputBuffer, Sink, write_decimal};
 
-/// What is counted, and how counts are written.
+/// How packets are counted, and how their counts are written.
 #[derive(Clone, Copy, PartialEq, Eq, Debug)]
-pub enum StatisticsFormat {
-    /// Lines of four fields, with a tab between two: column, text, packets and bytes.
-    Text,
-    /// Lines of JSON (RFC 8259), each an object with these four members.
-    Json,
-    /// Packets are counted by the texts of all columns together. Lines have the names of the columns, their texts, the
-    /// packets and the bytes, with a tab between two.
-    Joint,
+pub struct Counting {
+    /// Packets are counted by the texts of all columns together, and not by those of each.
+    pub is_joint: bool,
+    /// How their counts are written.
+    pub format: StatisticsFormat,
 }
 
-impl StatisticsFormat {
-    /// Tests that packets are counted by the texts of all columns together.
-    pub(crate) fn is_joint(self) -> bool
-        ensures { result ≡ is_joint self }
-    {
-        matches!(self, StatisticsFormat::Joint)
-    }
+/// How counts are written.
+#[derive(Clone, Copy, PartialEq, Eq, Debug)]
+pub enum StatisticsFormat {
+    /// Lines of fields, with a tab between two: columns, their texts, packets and bytes.
+    Text,
+    /// Lines of JSON (RFC 8259), each an object with these members.
+    Json,
 }
 
 /// Writes the line of a key and its count.
@@ -41,7 +38,6 @@ pub(crate) fn write_statistic<W: Sink>(
 {
     match format {
         StatisticsFormat::Text => write_fields(key, count, out),
-        StatisticsFormat::Joint => write_fields(key, count, out),
         StatisticsFormat::Json => {
             let (column, text) = parts_of(key);
             out.append(b"{\"column\":\"");

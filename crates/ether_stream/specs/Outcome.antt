@@ -15,7 +15,7 @@ use Rattle.ether_stream.specs.declared.write_fault.WriteFault.{WriteFault}
 use Rattle.ether_stream.specs.declared.write_fault.WriteFault.TheVariants as write_faults
 use Rattle.ether_stream.specs.Usage.{usage_text}
 use Rattle.ether_stream.specs.declared.about.TheConstants.{HELP, VERSION}
-use Rattle.ether_stream.specs.declared.messages.TheConstants.{BZIP2, DENIED, GZIP, IS_FOLDER, LZ4, NO_FILE, NO_FOLDER, NO_MEMORY, NO_NAME, NO_SPACE, NOT_EDITED, NOT_OPENED, NOT_WRITTEN, OTHER_VERSION, PCAP_VARIANT, PROGRAM, SELECT, STANDARD_INPUT, TRY_HELP, UNREADABLE, XZ, ZSTD}
+use Rattle.ether_stream.specs.declared.messages.TheConstants.{BZIP2, DENIED, GZIP, IS_FOLDER, LZ4, NO_FILE, NO_FOLDER, NO_MEMORY, NO_NAME, NO_SPACE, NOT_COUNTS, NOT_EDITED, NOT_OPENED, NOT_WRITTEN, OTHER_VERSION, PCAP_VARIANT, PROGRAM, SELECT, STANDARD_INPUT, TRY_HELP, UNREADABLE, XZ, ZSTD}
 use Rattle.ether_stream.specs.declared.usage.Usage.{Usage}
 use Rattle.ether_stream.specs.declared.outcome.Outcome.{Outcome}
 use Rattle.ether_stream.specs.declared.outcome.Outcome.TheVariants as outcomes
@@ -97,6 +97,11 @@ not_opened_text name fault = named_text name (NOT_OPENED.now ++ open_fault_text 
 abbrev pub not_written_text : (name : List ℕ) → WriteFault → List ℕ
 not_written_text name fault = named_text name (NOT_WRITTEN.now ++ write_fault_text fault)
 
+-- a line of standard input is not that of a count
+abbrev pub not_counts_text : (number : ℕ) → List ℕ
+not_counts_text number =
+    named_text STANDARD_INPUT.now (codes "line " ++ (decimal number ++ (codes ": " ++ NOT_COUNTS.now)))
+
 -- why the text of a filter is not an expression
 abbrev pub no_filter_text : FilterError → List ℕ
 no_filter_text error = named_text SELECT.now (filter_error_text error)
@@ -144,6 +149,7 @@ last_text (outcomes.Files end) = None
 last_text (outcomes.File name end) = text_of_run name.now end
 last_text (outcomes.NotOpened name fault) = Some (not_opened_text name.now fault)
 last_text (outcomes.NotWritten name fault) = Some (not_written_text name.now fault)
+last_text (outcomes.NotCounts number) = Some (not_counts_text number)
 last_text (outcomes.NoFilter error) = Some (no_filter_text error)
 last_text outcomes.Help = Some HELP.now
 last_text outcomes.Version = Some VERSION.now
@@ -164,6 +170,7 @@ status_of_outcome (outcomes.Files (Err fault)) = exit_status (Err Output)
 status_of_outcome (outcomes.File name end) = exit_status end
 status_of_outcome (outcomes.NotOpened name fault) = exit_status (Err Input)
 status_of_outcome (outcomes.NotWritten name fault) = exit_status (Err Output)
+status_of_outcome (outcomes.NotCounts number) = 3
 status_of_outcome (outcomes.NoFilter error) = 2
 status_of_outcome outcomes.Help = 0
 status_of_outcome outcomes.Version = 0
@@ -179,6 +186,7 @@ abbrev pub last_line_text : LastLine → List ℕ
 last_line_text (last_lines.Stopped name reason) = named_text name.now (reason_text reason)
 last_line_text (last_lines.NotOpened name fault) = not_opened_text name.now fault
 last_line_text (last_lines.NotWritten name fault) = not_written_text name.now fault
+last_line_text (last_lines.NotCounts number) = not_counts_text number
 last_line_text last_lines.Help = HELP.now
 last_line_text last_lines.Version = VERSION.now
 last_line_text (last_lines.Usage usage) = usage_line_text usage

@@ -15,11 +15,11 @@ impl Count {
         Count { packets: 1, bytes }
     }
 
-    /// This count with another packet, which had `bytes` bytes.
-    pub(in crate::ether_capture) fn with(self, bytes: usize) -> Count {
+    /// This count with more packets.
+    pub(in crate::ether_capture) fn with(self, more: Count) -> Count {
         Count {
-            packets: self.packets.saturating_add(1),
-            bytes: self.bytes.saturating_add(bytes),
+            packets: self.packets.saturating_add(more.packets),
+            bytes: self.bytes.saturating_add(more.bytes),
         }
     }
 }

@@ -17,11 +17,11 @@ impl CountTable {
         CountTable { counts: BTreeMap::new() }
     }
 
-    /// Counts a packet that had `bytes` bytes under a key. Never returns an error: without memory std ends the process.
-    pub fn add(&mut self, key: &[u8], bytes: usize) -> Result<(), NoMemory> {
+    /// Counts more packets under a key. Never returns an error: without memory std ends the process.
+    pub fn add(&mut self, key: &[u8], more: Count) -> Result<(), NoMemory> {
         match self.counts.get_mut(key) {
-            Some(count) => *count = count.with(bytes),
-            None => self.insert(key, Count::of_packet(bytes))?,
+            Some(count) => *count = count.with(more),
+            None => self.insert(key, more)?,
         }
         Ok(())
     }

@@ -56,7 +56,7 @@ pub(in crate::ether_capture) fn all_options() -> &'static [OptionRow<&'static st
 }
 
 /// The table of options, in the order of the help.
-pub static OPTIONS: [OptionRow<&str>; 22] = [
+pub static OPTIONS: [OptionRow<&str>; 23] = [
     OptionRow {
         name: "read",
         spelling: Spelling::Letter('r'),
@@ -147,6 +147,13 @@ pub static OPTIONS: [OptionRow<&str>; 22] = [
         value: Some("COLUMNS"),
         group: "Lines",
         help: "with --stats, count by the values of all COLUMNS together, as arp.spa,arp.sha",
+    },
+    OptionRow {
+        name: "merge",
+        spelling: Spelling::Name,
+        value: None,
+        group: "Lines",
+        help: "add up counts that --stats has printed, which are read from standard input",
     },
     OptionRow {
         name: "status-on-fault",

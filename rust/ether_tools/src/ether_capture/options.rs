@@ -1,6 +1,7 @@
 //! What the arguments ask for, by their words, which `clap` reads. Written by hand, not proved.
 use crate::ether_capture::option_table::{OPTIONS, OptionRow, Spelling};
-use crate::ether_capture::request::{Asked, Request, RequestError, counted_of, first_of};
+use crate::ether_capture::heading::counted_of;
+use crate::ether_capture::request::{Asked, Request, RequestError, first_of};
 use crate::ether_capture::wrong_words::usage_of;
 use crate::ether_stream::{Usage, ValueOption, count_of, edit_of_words, fields_of, format_of, limit_of, status_on_fault_of, undecided_of};
 use crate::ether_capture::memory::Global;
@@ -54,6 +55,7 @@ fn asked<'a>(matches: &ArgMatches, words: &'a [String]) -> Result<Asked<'a>, Usa
         is_shown: matches.get_flag("progress"),
         has_header: matches.get_flag("header"),
         is_counted,
+        is_merge: matches.get_flag("merge"),
         edit: edit_of_words(cuts, pops, push, set)?,
         text: text_of(matches, words, "select"),
         undecided: undecided_of(text_of(matches, words, "undecided"))?,

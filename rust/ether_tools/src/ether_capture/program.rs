@@ -5,6 +5,7 @@ use crate::ether_capture::copies::Copies;
 use crate::ether_capture::copy_run::{copy_file, copy_input};
 use crate::ether_capture::grouping::{Each, Grouping, Together};
 use crate::ether_capture::journal::Journal;
+use crate::ether_capture::merge_run::merge_counts;
 use crate::ether_capture::options::request_of_words;
 use crate::ether_capture::request::{Job, Request, RequestError};
 use crate::ether_capture::run_input::run_input;
@@ -106,50 +107,43 @@ fn carry_out_request<
     writer: &mut W,
     messages: &mut M,
 ) -> Outcome<'a> {
-    let Some(format) = request.statistics() else {
+    let Some(counting) = request.statistics() else {
         return write_lines_or_copy(request, alloc, captures, copies, reader, writer, messages);
     };
-    if format.is_joint() {
-        count_rows::<J, Together, C, K, R, W, M>(
-            request, format, alloc, captures, copies, reader, writer, messages,
-        )
+    if counting.is_joint {
+        let mut counts = Statistics::<J, Together>::new(alloc);
+        let outcome = write_lines_or_copy(
+            request,
+            alloc,
+            captures,
+            copies,
+            reader,
+            &mut counts,
+            messages,
+        );
+        write_counts(&mut counts, outcome, counting.format, writer)
     } else {
-        count_rows::<J, Each, C, K, R, W, M>(
-            request, format, alloc, captures, copies, reader, writer, messages,
-        )
+        let mut counts = Statistics::<J, Each>::new(alloc);
+        let outcome = write_lines_or_copy(
+            request,
+            alloc,
+            captures,
+            copies,
+            reader,
+            &mut counts,
+            messages,
+        );
+        write_counts(&mut counts, outcome, counting.format, writer)
     }
 }
 
-/// Counts the texts of columns in place of writing rows, and writes the counts.
-fn count_rows<
-    'a,
-    J: Journal,
-    G: Grouping,
-    C: Captures,
-    K: Copies,
-    R: Source,
-    W: Sink,
-    M: LineSink,
->(
-    request: Request<'a>,
+/// Writes the counts of a run whose rows were counted, unless memory for these was refused.
+fn write_counts<'a, J: Journal, G: Grouping, W: Sink>(
+    counts: &mut Statistics<J, G>,
+    outcome: Outcome<'a>,
     format: StatisticsFormat,
-    alloc: Global,
-    captures: &C,
-    copies: &mut K,
-    reader: &mut R,
     writer: &mut W,
-    messages: &mut M,
 ) -> Outcome<'a> {
-    let mut counts = Statistics::<J, G>::new(alloc);
-    let outcome = write_lines_or_copy(
-        request,
-        alloc,
-        captures,
-        copies,
-        reader,
-        &mut counts,
-        messages,
-    );
     if counts.has_failed() || is_unwritten(&outcome) {
         return Outcome::NoMemory;
     }
@@ -194,6 +188,7 @@ fn write_lines_or_copy<'a, C: Captures, K: Copies, R: Source, W: Sink, M: LineSi
             Ok(()) => Outcome::Files(run_files(listing, alloc, captures, reader, writer, messages)),
             Err(OutputFault) => Outcome::Run(Err(RunFault::Output)),
         },
+        Request::Merge(format) => merge_counts(format, alloc, reader, writer),
         Request::Help => Outcome::Help,
         Request::Version => Outcome::Version,
     }

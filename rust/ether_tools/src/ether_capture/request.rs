@@ -1,6 +1,7 @@
 //! What the options together ask for.
 
-use crate::ether_capture::statistics_format::StatisticsFormat;
+use crate::ether_capture::heading::{Heading, line_of, statistics_format_of, statistics_of};
+use crate::ether_capture::statistics_format::{Counting, StatisticsFormat};
 use etherpeel::ether_content::PacketEdit;
 use etherpeel::ether_filter::{Filter, FilterError};
 use etherpeel::ether_format::{Columns, Format};
@@ -34,21 +35,12 @@ pub enum Request<'a> {
     Run(Job<'a>),
     /// The lines of several captures.
     List(Listing<'a>),
+    /// The sums of counts that were printed.
+    Merge(StatisticsFormat),
     /// How the program is used.
     Help,
     /// The program's name and version.
     Version,
-}
-
-/// What is made of columns.
-#[derive(Clone, Copy, Debug)]
-pub enum Heading {
-    /// Rows, if columns are asked for.
-    Absent,
-    /// A line of their names in this format, and then rows.
-    Line(Format),
-    /// Counts of the texts in the rows, whose first column is the length of the packet.
-    Statistics(StatisticsFormat, Columns),
 }
 
 /// What is made of one capture.
@@ -94,6 +86,7 @@ pub(in crate::ether_capture) struct Asked<'a> {
     pub(in crate::ether_capture) is_shown: bool,
     pub(in crate::ether_capture) has_header: bool,
     pub(in crate::ether_capture) is_counted: bool,
+    pub(in crate::ether_capture) is_merge: bool,
     pub(in crate::ether_capture) edit: Option<PacketEdit>,
     pub(in crate::ether_capture) text: Option<&'a str>,
     pub(in crate::ether_capture) undecided: Option<Undecided>,
@@ -166,6 +159,7 @@ impl<'a> Asked<'a> {
     fn surplus(&self) -> Option<&'a str> {
         match (self.input, self.files.as_slice()) {
             (Some(_), [name, ..]) => Some(*name),
+            (None, [name, ..]) if self.is_merge => Some(*name),
             (None, [_, name, ..]) if self.is_copy() => Some(*name),
             _ => None,
         }
@@ -173,13 +167,39 @@ impl<'a> Asked<'a> {
 
     /// Tests that there is an option that does not go with the others.
     fn clashes(&self) -> bool {
-        if self.clashes_in_columns() {
-            return true;
-        }
+        self.clashes_with_copy() || self.clashes_in_columns() || self.clashes_with_merge()
+    }
+
+    /// Tests that a copy is asked for with options of lines, or lines that are plain in another format.
+    fn clashes_with_copy(&self) -> bool {
         if self.is_copy() {
             return self.is_plain || self.limit.is_some() || self.has_format();
         }
         self.is_plain && self.has_format()
+    }
+
+    /// Tests that sums of counts are asked for with an option of captures.
+    fn clashes_with_merge(&self) -> bool {
+        self.is_merge && (self.chooses_packets() || self.makes_packets() || self.forms_packets())
+    }
+
+    /// Tests that packets or a capture are chosen.
+    fn chooses_packets(&self) -> bool {
+        self.text.is_some() || self.count.is_some() || self.input.is_some()
+    }
+
+    /// Tests that something is to be made of packets.
+    fn makes_packets(&self) -> bool {
+        self.is_copy()
+            || self.is_plain
+            || self.is_counted
+            || self.limit.is_some()
+            || self.fields.is_some()
+    }
+
+    /// Tests that packets are to have a form that sums of counts do not have, or that their faults count.
+    fn forms_packets(&self) -> bool {
+        self.status_on_fault.is_some() || self.is_brief() || self.is_csv()
     }
 
     /// Tests that there is an option of columns that does not go with the others.
@@ -253,6 +273,7 @@ impl<'a> Asked<'a> {
             return Err(RequestError::Usage(usage));
         }
         match filter_of(self.text) {
+            Ok(_) if self.is_merge => Ok(Request::Merge(statistics_format_of(&self.format))),
             Ok(filter) if self.has_several() => Ok(Request::List(Listing {
                 selection: self.selection(filter),
                 count: self.count,
@@ -405,64 +426,13 @@ fn format_named(name: Option<FormatName>) -> Option<Format> {
     }
 }
 
-/// Counts of the texts of columns, of each or of all together, in a format.
-fn statistics_of(is_joint: bool, format: &Option<FormatName>, columns: &Option<Columns>) -> Heading {
-    match (columns, format) {
-        (Some(columns), _) if is_joint => Heading::Statistics(StatisticsFormat::Joint, *columns),
-        (Some(columns), Some(FormatName::Json)) => {
-            Heading::Statistics(StatisticsFormat::Json, *columns)
-        }
-        (Some(columns), _) => Heading::Statistics(StatisticsFormat::Text, *columns),
-        (None, _) => Heading::Absent,
-    }
-}
-
-/// A line of the names of columns in a format.
-fn line_of(format: &Option<Format>) -> Heading {
-    match format {
-        Some(format) => Heading::Line(*format),
-        None => Heading::Absent,
-    }
-}
-
-/// The columns whose texts are counted: the length of the packet, and then these, or common ones. Returns `None` if
-/// nothing is counted, or if these would be more than 32.
-pub(in crate::ether_capture) fn counted_of(is_counted: bool, fields: &Option<Columns>) -> Option<Columns> {
-    if !is_counted {
-        return None;
-    }
-    match fields {
-        Some(columns) => columns.after_original(),
-        None => Columns::common().after_original(),
-    }
-}
-
-impl Heading {
-    /// The format of the line of names, if one is written first.
-    pub(in crate::ether_capture) fn format(&self) -> Option<Format> {
-        match self {
-            Heading::Absent => None,
-            Heading::Line(format) => Some(*format),
-            Heading::Statistics(_, columns) => Some(Format::Fields(*columns)),
-        }
-    }
-
-    /// How counts are written, if they are asked for.
-    pub(in crate::ether_capture) fn statistics(&self) -> Option<StatisticsFormat> {
-        match self {
-            Heading::Statistics(format, _) => Some(*format),
-            Heading::Absent | Heading::Line(_) => None,
-        }
-    }
-}
-
 impl Request<'_> {
-    /// How counts are written, if they are asked for.
-    pub(in crate::ether_capture) fn statistics(&self) -> Option<StatisticsFormat> {
+    /// How packets are counted, if that is asked for.
+    pub(in crate::ether_capture) fn statistics(&self) -> Option<Counting> {
         match self {
             Request::Run(job) => job.heading.statistics(),
             Request::List(listing) => listing.heading.statistics(),
-            Request::Help | Request::Version => None,
+            Request::Merge(_) | Request::Help | Request::Version => None,
         }
     }
 }

@@ -4,6 +4,9 @@ use crate::ether_capture::count::Count;
 use crate::ether_capture::count_table::CountTable;
 use crate::ether_capture::grouping::Grouping;
 use crate::ether_capture::heap_text::HeapText;
+use crate::ether_capture::row_counts::{first_field, or_nothing};
+use crate::ether_capture::row_slot::{RowSlot, count_waiting, take_row};
+use crate::ether_capture::row_slots::{empty_slots, no_slots};
 use crate::ether_capture::statistics_format::StatisticsFormat;
 use etherpeel::ether_format::split_at;
 use etherpeel::ether_output::{OutputBuffer, Sink};
@@ -11,12 +14,16 @@ use crate::ether_stream::NoMemory;
 use crate::ether_capture::memory::Global;
 
 /// The counts of the lines so far, and the bytes after the last line feed. The first line names the columns.
+///
+/// Rows with the same texts are many, so they wait in slots, and are counted by the texts of columns together.
 pub struct Rows {
+    alloc: Global,
     heading: HeapText,
     has_heading: bool,
     line: HeapText,
     key: HeapText,
     total: Count,
+    slots: Vec<RowSlot>,
     counts: CountTable,
 }
 
@@ -32,6 +39,7 @@ impl Rows {
     /// </details>
     pub fn new(alloc: Global) -> Rows {
         Rows {
+            alloc,
             heading: HeapText::new(alloc),
             has_heading: false,
             line: HeapText::new(alloc),
@@ -40,6 +48,7 @@ impl Rows {
                 packets: 0,
                 bytes: 0,
             },
+            slots: no_slots(alloc),
             counts: CountTable::new(alloc),
         }
     }
@@ -67,18 +76,24 @@ impl Rows {
         Ok(())
     }
 
-    /// Counts all packets under a key of their own. Returns [`NoMemory`] if memory for that is refused. No line is taken
-    /// after that.
+    /// Counts the rows that wait, and all packets under a key of their own. Returns [`NoMemory`] if memory for that is
+    /// refused. No line is taken after that.
     ///
     /// <details><summary>Contract</summary>
     ///
     /// ```text
-    /// ensures { OnOk result
-    ///     (count_at self.new.counts ≡ with_total self.old.total (count_at self.old.counts)) }
+    /// ensures { (text : List ℕ) → Tabulates G.is_joint text self.old → OnOk result ((q : List ℕ)
+    ///     → count_at self.new.counts q ≡ lines_counts G.is_joint (lines_of text) q) }
     /// ```
     ///
     /// </details>
-    pub fn add_total(&mut self) -> Result<(), NoMemory> {
+    pub fn add_total<G: Grouping>(&mut self) -> Result<(), NoMemory> {
+        count_waiting::<G>(
+            self.slots.as_slice(),
+            self.heading.as_slice(),
+            &mut self.key,
+            &mut self.counts,
+        )?;
         self.counts.insert(b"total\t", self.total)
     }
 
@@ -111,128 +126,28 @@ impl Rows {
     /// Takes the line as the heading if there is none yet, or counts it.
     fn take_line<G: Grouping>(&mut self) -> Result<(), NoMemory> {
         if !self.has_heading {
+            self.slots = empty_slots(self.alloc)?;
             self.heading.append(self.line.as_slice())?;
             self.has_heading = true;
             return Ok(());
         }
-        let bytes = count_line::<G>(
+        let (len, fields) = first_field(self.line.as_slice());
+        let more = Count::of_packet(decimal_value(len));
+        take_row::<G>(
+            self.slots.as_mut_slice(),
+            or_nothing(fields),
+            more,
             self.heading.as_slice(),
-            self.line.as_slice(),
             &mut self.key,
             &mut self.counts,
         )?;
-        self.total = self.total.with(bytes);
+        self.total = self.total.with(more);
         Ok(())
     }
 }
 
-/// Counts a packet for the texts of its row, of all columns together or of each. Returns how many bytes the packet had.
-#[inline(always)]
-fn count_line<G: Grouping>(
-    heading: &[u8],
-    row: &[u8],
-    key: &mut HeapText,
-    counts: &mut CountTable,
-) -> Result<usize, NoMemory> {
-    if G::is_joint() {
-        return count_together(heading, row, key, counts);
-    }
-    count_row(heading, row, key, counts)
-}
-
-/// Counts a packet for the texts of all columns of its row together, unless all are empty. Returns how many bytes the
-/// packet had.
-fn count_together(
-    heading: &[u8],
-    row: &[u8],
-    key: &mut HeapText,
-    counts: &mut CountTable,
-) -> Result<usize, NoMemory> {
-    let (_, columns) = first_field(heading);
-    let (len, fields) = first_field(row);
-    let bytes = decimal_value(len);
-    if let Some(texts) = fields {
-        if !are_empty(texts) {
-            count(or_nothing(columns), texts, bytes, key, counts)?;
-        }
-    }
-    Ok(bytes)
-}
-
-/// A text, or nothing if there is none.
-fn or_nothing(text: Option<&[u8]>) -> &[u8] {
-    match text {
-        Some(text) => text,
-        None => b"",
-    }
-}
-
-/// Tests that all fields are empty.
-fn are_empty(texts: &[u8]) -> bool {
-    let mut rest = Some(texts);
-    while let Some(left) = rest {
-        let (text, later) = first_field(left);
-        if !text.is_empty() {
-            return false;
-        }
-        rest = later;
-    }
-    true
-}
-
-/// Counts a packet for each text of the columns of its row. Returns how many bytes the packet had.
-fn count_row(
-    heading: &[u8],
-    row: &[u8],
-    key: &mut HeapText,
-    counts: &mut CountTable,
-) -> Result<usize, NoMemory> {
-    let (_, mut columns) = first_field(heading);
-    let (len, mut fields) = first_field(row);
-    let bytes = decimal_value(len);
-    while let (Some(names), Some(texts)) = (columns, fields) {
-        let (column, later_columns) = first_field(names);
-        let (text, later_fields) = first_field(texts);
-        if !text.is_empty() {
-            count(column, text, bytes, key, counts)?;
-        }
-        columns = later_columns;
-        fields = later_fields;
-    }
-    Ok(bytes)
-}
-
-/// Counts a packet for the text of a column.
-fn count(
-    column: &[u8],
-    text: &[u8],
-    bytes: usize,
-    key: &mut HeapText,
-    counts: &mut CountTable,
-) -> Result<(), NoMemory> {
-    write_key(column, text, key)?;
-    counts.add(key.as_slice(), bytes)
-}
-
-/// Replaces `key` by the key of a column's text: the column, a tab and the text.
-fn write_key(column: &[u8], text: &[u8], key: &mut HeapText) -> Result<(), NoMemory> {
-    key.clear();
-    key.append(column)?;
-    key.append(b"\t")?;
-    key.append(text)?;
-    Ok(())
-}
-
-/// The first field, and the text after the tab that ends it, if there is one.
-pub(in crate::ether_capture) fn first_field(text: &[u8]) -> (&[u8], Option<&[u8]>) {
-    match split_at(b'\t', text) {
-        Some((field, after)) => (field, Some(after)),
-        None => (text, None),
-    }
-}
-
 /// The number that decimal digits spell, or the greatest there is.
-fn decimal_value(digits: &[u8]) -> usize {
+pub(in crate::ether_capture) fn decimal_value(digits: &[u8]) -> usize {
     let mut value: usize = 0;
     for digit in digits {
         value = value

@@ -56,8 +56,8 @@ impl<J: Journal, G: Grouping> Statistics<J, G> {
     ///
     /// ```text
     /// ensures written { OnOk result (self.old.has_failed ≡ false
-    ///     → is_joint format ≡ G.is_joint → Shows J.is_known (J.Sink.contents self.old.journal) format
-    ///     (W.contents writer.old) (W.contents writer.new)) }
+    ///     → Shows J.is_known G.is_joint (J.Sink.contents self.old.journal) format (W.contents writer.old)
+    ///     (W.contents writer.new)) }
     /// ensures flushed { OnOk result (W.is_flushed writer.new) }
     /// ensures failed { IfErr result (λ fault. ((fault ≡ Memory) × (writer.new ≡ writer.old))
     ///     ⊎ ((fault ≡ Output) × W.can_fail)) }
@@ -70,7 +70,7 @@ impl<J: Journal, G: Grouping> Statistics<J, G> {
         writer: &mut W,
     ) -> Result<(), RunFault> {
         self.has_failed = true;
-        self.rows.add_total()?;
+        self.rows.add_total::<G>()?;
         let mut out = OutputBuffer::new(writer);
         self.rows.write(format, &mut out);
         out.flush()?;

@@ -1,26 +1,25 @@
 //! Writes the count of a key.
 
 use crate::ether_capture::count::Count;
-use crate::ether_capture::rows::first_field;
+use crate::ether_capture::row_counts::first_field;
 use etherpeel::ether_output::{OutputBuffer, Sink, write_decimal};
 
-/// What is counted, and how counts are written.
+/// How packets are counted, and how their counts are written.
 #[derive(Clone, Copy, PartialEq, Eq, Debug)]
-pub enum StatisticsFormat {
-    /// Lines of four fields, with a tab between two: column, text, packets and bytes.
-    Text,
-    /// Lines of JSON (RFC 8259), each an object with these four members.
-    Json,
-    /// Packets are counted by the texts of all columns together. Lines have the names of the columns, their texts, the
-    /// packets and the bytes, with a tab between two.
-    Joint,
+pub struct Counting {
+    /// Packets are counted by the texts of all columns together, and not by those of each.
+    pub is_joint: bool,
+    /// How their counts are written.
+    pub format: StatisticsFormat,
 }
 
-impl StatisticsFormat {
-    /// Tests that packets are counted by the texts of all columns together.
-    pub(in crate::ether_capture) fn is_joint(self) -> bool {
-        matches!(self, StatisticsFormat::Joint)
-    }
+/// How counts are written.
+#[derive(Clone, Copy, PartialEq, Eq, Debug)]
+pub enum StatisticsFormat {
+    /// Lines of fields, with a tab between two: columns, their texts, packets and bytes.
+    Text,
+    /// Lines of JSON (RFC 8259), each an object with these members.
+    Json,
 }
 
 /// Writes the line of a key and its count.
@@ -32,7 +31,6 @@ pub(in crate::ether_capture) fn write_statistic<W: Sink>(
 ) {
     match format {
         StatisticsFormat::Text => write_fields(key, count, out),
-        StatisticsFormat::Joint => write_fields(key, count, out),
         StatisticsFormat::Json => {
             let (column, text) = parts_of(key);
             out.append(b"{\"column\":\"");

@@ -34,6 +34,9 @@ pub(in crate::ether_stream) const NO_MEMORY: &str = "out of memory";
 pub(in crate::ether_stream) const NOT_EDITED: &str =
     "This packet can't be written: its block has no number of captured bytes, or it would be too long.";
 
+/// Why lines of counts are not added up.
+pub(in crate::ether_stream) const NOT_COUNTS: &str = "no whole line of a count, as --stats prints it";
+
 // ---- a program for a file that this one can't read
 
 pub(in crate::ether_stream) const GZIP: &str = " This looks like gzip: zcat unpacks it.";

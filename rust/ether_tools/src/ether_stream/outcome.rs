@@ -3,7 +3,7 @@
 use crate::ether_stream::about::{HELP, VERSION};
 use crate::ether_stream::messages::{
     BZIP2, DENIED, GZIP, IS_FOLDER, LZ4, NO_FILE, NO_FOLDER, NO_MEMORY, NO_NAME, NO_SPACE,
-    NOT_EDITED, NOT_OPENED, NOT_WRITTEN, OTHER_VERSION, PCAP_VARIANT, PROGRAM, SELECT,
+    NOT_COUNTS, NOT_EDITED, NOT_OPENED, NOT_WRITTEN, OTHER_VERSION, PCAP_VARIANT, PROGRAM, SELECT,
     STANDARD_INPUT, TRY_HELP, UNREADABLE, XZ, ZSTD,
 };
 use crate::ether_stream::{NoMemory, OpenFault, Usage, WriteFault};
@@ -119,6 +119,8 @@ pub enum Outcome<'a> {
         /// Why it can't.
         fault: WriteFault,
     },
+    /// The line of this number of standard input is not that of a count.
+    NotCounts(usize),
     /// The text of the filter is not an expression.
     NoFilter(FilterError),
     /// The arguments ask how the program is used.
@@ -191,6 +193,8 @@ pub enum LastLine<'a> {
     NotOpened(&'a str, OpenFault),
     /// A copy can't be written to the file of this name.
     NotWritten(&'a str, WriteFault),
+    /// The line of this number of standard input is not that of a count.
+    NotCounts(usize),
     /// How the program is used.
     Help,
     /// The version.
@@ -215,6 +219,10 @@ impl fmt::Display for LastLine<'_> {
                 let reason = reason_not_written(*fault);
                 write!(f, "{name}: {NOT_WRITTEN}{reason}")
             }
+            LastLine::NotCounts(number) => write!(
+                f,
+                "{STANDARD_INPUT}: line {number}: {NOT_COUNTS}"
+            ),
             LastLine::Help => write!(f, "{HELP}"),
             LastLine::Version => write!(f, "{VERSION}"),
             LastLine::Usage(usage) => write!(f, "{PROGRAM}: {usage}; {TRY_HELP}"),
@@ -240,6 +248,7 @@ pub fn last_line<'a>(outcome: &'a Outcome<'_>) -> Option<LastLine<'a>> {
         Outcome::File { name, end } => line_of_run(name, end),
         Outcome::NotOpened { name, fault } => Some(LastLine::NotOpened(name, *fault)),
         Outcome::NotWritten { name, fault } => Some(LastLine::NotWritten(name, *fault)),
+        Outcome::NotCounts(number) => Some(LastLine::NotCounts(*number)),
         Outcome::NoFilter(error) => Some(LastLine::NoFilter(error)),
         Outcome::Help => Some(LastLine::Help),
         Outcome::Version => Some(LastLine::Version),
@@ -353,6 +362,7 @@ pub fn program_status(outcome: &Outcome<'_>, is_printed: bool) -> u8 {
         Outcome::Files(Err(_)) => status_of(&Err(RunFault::Output)),
         Outcome::NotOpened { .. } => status_of(&Err(RunFault::Input)),
         Outcome::NotWritten { .. } => status_of(&Err(RunFault::Output)),
+        Outcome::NotCounts(_) => 3,
         Outcome::Help | Outcome::Version => 0,
         Outcome::Usage(_) | Outcome::NoFilter(_) => 2,
         Outcome::NoMemory => status_of(&Err(RunFault::Memory)),

@@ -43,3 +43,8 @@ returns-in-Help-clause-done g c = λ is_known. rw c.in-Help.is
 pub returns-clause-done : goal.returns-clause-done
 returns-clause-done g c = λ is_known. rw c.in-Version.is
     (headed outcomes.Version (g.W.Sink.contents c.args.writer.now) (Appends-none _) refl)
+
+pub returns-in-Merge-clause-done : goal.returns-in-Merge-clause-done
+returns-in-Merge-clause-done g c = λ is_known. rw c.in-Merge.is
+    (headed c.merge_counts.result (g.W.Sink.contents c.args.writer.now) (Appends-none _)
+    (c.merge_counts.ensures.merged, refl))

@@ -4,9 +4,6 @@ use Rattle.ether_capture.proofs.statistics_format.write_statistic.Goals as goal
 pub returns-in-Text : goal.returns-in-Text
 returns-in-Text g c = rw c.in-Text.is c.write_fields.ensures
 
-pub returns-in-Joint : goal.returns-in-Joint
-returns-in-Joint g c = rw c.in-Joint.is c.write_fields-in-Joint.ensures
-
 pub returns-in-Json : goal.returns-in-Json
 returns-in-Json g c =
     rw c.in-Json.is

@@ -6,6 +6,6 @@ pub returns-in-Some : goal.returns-in-Some
 returns-in-Some c =
     let old = c.args.self.now.counts in
     let is : at old c.args.key.now ≡ Some c.in-Some.count.now = sym c.in-Some.ensures.value in
-    with_one_more old (c.get_mut.follows.lender c.with.result) c.args.key.now c.args.bytes c.in-Some.count.now
+    with_one_more old (c.get_mut.follows.lender c.with.result) c.args.key.now c.args.more c.in-Some.count.now
     c.with.result is
     c.with.ensures ((c.get_mut.follows.holds c.with.result).3 (search rules))

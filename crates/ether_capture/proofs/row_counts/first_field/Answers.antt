@@ -1,5 +1,5 @@
 use Rattle.ether_capture.proofs.FieldLemmas.{next_field, one_field}
-use Rattle.ether_capture.proofs.rows.first_field.Goals as goal
+use Rattle.ether_capture.proofs.row_counts.first_field.Goals as goal
 
 pub returns-in-Some : goal.returns-in-Some
 returns-in-Some c = next_field c.args.text.now c.in-Some.field.now c.in-Some.after.now c.in-Some.ensures.some
