@@ -165,7 +165,8 @@ impl<W: Sink> Run<'_, '_, '_, W> {
             self.end = Some(Found::Fault(RunFault::Memory));
             return;
         };
-        match block.read_from(reader, matches!(self.way, Way::Open | Way::Left)) {
+        let may_leave = matches!(self.way, Way::Open | Way::Left) && self.crew.is_worth();
+        match block.read_from(reader, may_leave) {
             Ok(0) => self.end = Some(Found::End),
             Ok(_) => {
                 self.way = match self.way {

@@ -17,6 +17,9 @@ const EACH: usize = 2;
 /// A piece with fewer bytes is not worth a thread, if no other one is under way.
 const SHORT: usize = 16_384;
 
+/// How many pieces are made before threads are worth their start.
+const FIRST: usize = 2;
+
 /// How many bytes memory may have that is used again.
 const MOST_BYTES: usize = 4_194_304;
 
@@ -49,6 +52,7 @@ pub struct Crew<'scope, 'env> {
     waiting: Arc<Mutex<Receiver<Job>>>,
     done: Sender<Job>,
     gathered: Receiver<Job>,
+    given: usize,
     pieces: Window<Piece>,
     blocks: Window<Block>,
     spare: Vec<Vec<u8>>,
@@ -68,6 +72,7 @@ impl<'scope, 'env> Crew<'scope, 'env> {
             waiting: Arc::new(Mutex::new(waiting)),
             done,
             gathered,
+            given: 0,
             pieces: Window::new(),
             blocks: Window::new(),
             spare: Vec::new(),
@@ -85,6 +90,11 @@ impl<'scope, 'env> Crew<'scope, 'env> {
         self.pieces.len() == 0
     }
 
+    /// Tests that the capture is so long that threads are worth their start.
+    pub fn is_worth(&self) -> bool {
+        self.given >= FIRST
+    }
+
     /// Tests that another block may be given.
     pub fn may_read(&self) -> bool {
         self.blocks.len() < self.most * EACH
@@ -97,7 +107,8 @@ impl<'scope, 'env> Crew<'scope, 'env> {
 
     /// Gives a piece to the threads. If it is not worth one, its lines are made at once.
     pub fn give_piece(&mut self, mut piece: Piece) {
-        let is_short = piece.units.len() < SHORT && self.is_idle();
+        let is_short = (piece.units.len() < SHORT || !self.is_worth()) && self.is_idle();
+        self.given += 1;
         piece.made.text = self.texts.pop().unwrap_or_default();
         let number = self.pieces.begin();
         self.give(Job::Make(number, piece), is_short);

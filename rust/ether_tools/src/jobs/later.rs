@@ -43,15 +43,15 @@ pub fn asked<T>(room: &mut [u8], read: impl FnOnce(&mut [u8]) -> T) -> (T, Optio
     (answer, LEFT.take())
 }
 
-/// Leaves a read of a regular file into a room, if that was asked for. Returns the number of its bytes.
+/// Leaves a read of a regular file into a room, if that was asked for, and if the file has bytes for all of it. Returns
+/// their number.
 pub fn left(file: &Arc<File>, room: &[u8]) -> Option<usize> {
     if ASKED.get() != Some((room.as_ptr(), room.len())) {
         return None;
     }
     let place = (&**file).stream_position().ok()?;
-    let more = file.metadata().ok()?.len().saturating_sub(place);
-    let len = room.len().min(usize::try_from(more).unwrap_or(usize::MAX));
-    if len == 0 {
+    let len = room.len();
+    if file.metadata().ok()?.len().saturating_sub(place) < len as u64 {
         return None;
     }
     (&**file).seek(SeekFrom::Start(place + len as u64)).ok()?;
