@@ -115,14 +115,17 @@ fn columns(name: &[u8], text: &mut Text) -> fmt::Result {
     let mut written = Written::new();
     let mut out = OutputBuffer::new(&mut written);
     columns.write_heading(&mut out);
+    Format::Csv(columns).write_heading(&mut out);
     text.add(&out.flush())?;
     text.add(&(&columns, &written, &columns.after_original()))
 }
 
 /// Writes the lines of some packets; of one in four not all headers.
 fn packets(draw: &mut Draw, name: &[u8], text: &mut Text) -> fmt::Result {
-    let Some(format) = Format::of_text(name) else {
-        return Ok(());
+    let format = match Format::of_text(name) {
+        Some(Format::Fields(columns)) if draw.flag() => Format::Csv(columns),
+        Some(format) => format,
+        None => return Ok(()),
     };
     let capture = drawn_capture(draw);
     let mut written = Written::new();
