@@ -30,7 +30,7 @@ from counts import examples as counts
 from formats import examples
 from programs import count, on_a_full_disk, run, run_apart, run_until_a_fault, without_memory
 
-USAGE = ("usage: ether_capture [[--plain | --format lines|brief|json | --fields COLUMNS [--format csv] [--header] | --stats [[--fields COLUMNS] [--format json] | --by COLUMNS]] [--limit N] [--status-on-fault yes|no] | --write [-w COPY] [--cut-to-headers | --pop-vlan | --push-vlan TPID:ID | --set-vlan A:B]] "
+USAGE = ("usage: ether_capture [[--plain | --format lines|brief|json | --fields COLUMNS [--format csv] [--header] | --stats [[--fields COLUMNS] [--format json] | --by COLUMNS]] [--limit N] [--status-on-fault yes|no] | --merge [--format json] | --write [-w COPY] [--cut-to-headers | --pop-vlan | --push-vlan TPID:ID | --set-vlan A:B]] "
          "[--select EXPR [--undecided keep|drop]] [-c N] [--progress] [--jobs N] [-r FILE | FILE..]\n")
 
 
