@@ -94,8 +94,8 @@ def on_a_full_disk(program, words, given):
 
 
 def without_memory(program, capture, words=()):
-    """What the program prints, what it says on standard error, and its status, if it may have 6 MiB."""
-    return run_apart(program, words, capture, preexec_fn=lambda: resource.setrlimit(resource.RLIMIT_AS, (6 << 20, 6 << 20)))
+    """What the program prints, what it says on standard error, and its status, if it may have 8 MiB."""
+    return run_apart(program, words, capture, preexec_fn=lambda: resource.setrlimit(resource.RLIMIT_AS, (8 << 20, 8 << 20)))
 
 
 def places(found, wanted, path=""):
