@@ -15,6 +15,7 @@ complete -c ether_capture -l progress -d 'show on standard error how many bytes 
 complete -c ether_capture -l plain -d 'leave out the lines of packets and the totals'
 complete -c ether_capture -l header -d 'with --fields, print a line of the names first'
 complete -c ether_capture -l stats -d 'count packets and bytes by the values of COLUMNS, or without --fields of headers, VLANs, types, faults and ARP senders'
+complete -c ether_capture -l merge -d 'add up counts that --stats has printed, which are read from standard input'
 complete -c ether_capture -l write -d 'write the capture itself to standard output, of one FILE at most, without the other packets'
 complete -c ether_capture -l cut-to-headers -d 'with --write, cut each packet where its link-layer headers end'
 complete -c ether_capture -l pop-vlan -d 'with --write, take the VLAN tag after the link\'s header off each frame'
