@@ -22,6 +22,7 @@ STREAMS, NOTED, FILES, COPIES, PROGRESS, OPTIONS, TABLE, MEMORY, TEXT, INTERFACE
         "streams", "ether_text/noted", "ether_capture/capture_files", "ether_capture/copy_files", "ether_capture/progress_line",
         "ether_capture/options", "ether_capture/count_table", "ether_capture/heap_memory", "ether_capture/heap_text",
         "ether_capture/interface_buffer", "bin/ether_capture", "bin/ether_tool", "ending", "gzip", "reasons"))
+SLOTS = "rust/ether_tools/src/ether_capture/row_slots.rs"
 JOBS, BELL, BLOCK, CUTTER, LATER, PIECE = (
     f"rust/ether_tools/src/{name}.rs" for name in ("jobs", "jobs/bell", "jobs/block", "jobs/cutter", "jobs/later", "jobs/piece"))
 NUMBER = "!*end && number <= most"
@@ -153,8 +154,10 @@ FAULTS = [
     Fault(PROGRESS, "a line that ends twice", "self.is_shown.replace(false)", "self.is_shown.get()"),
     Fault(OPTIONS, "progress by another option", '"progress"', '"plain"', 'is_shown: matches.get_flag("progress")'),
     Fault(OPTIONS, "no limit", 'text_of(matches, words, "limit")', "None"),
-    Fault(TABLE, "bytes are not added", "count.with(bytes)", "count.with(0)"),
-    Fault(TABLE, "the first bytes are not counted", "Count::of_packet(bytes)", "Count::of_packet(0)"),
+    Fault(OPTIONS, "--merge is not seen", 'matches.get_flag("merge")', "false"),
+    Fault(SLOTS, "no row waits", "(0..SLOTS)", "(0..0)", why="each row is counted at once then, which is only slower"),
+    Fault(TABLE, "more packets are not added", "*count = count.with(more)", "*count = *count"),
+    Fault(TABLE, "the first packets are not counted", "self.insert(key, more)", "self.insert(key, Count { packets: 0, bytes: 0 })"),
     Fault(MEMORY, "no end without memory", "self.bytes.try_reserve(more).is_err()", "{ self.bytes.reserve(more); false }"),
     Fault(TEXT, "a text that is not emptied", "self.bytes.clear();", ""),
     Fault(INTERFACES, "an interface too many", "self.interfaces.len() >= MAX_INTERFACES", "self.interfaces.len() > MAX_INTERFACES"),
