@@ -39,6 +39,7 @@ class Row(NamedTuple):
     number: int
     symbol: str
     is_member: bool
+    is_column: bool
 
 
 def table():
@@ -48,7 +49,7 @@ def table():
     blocks = {}
     for comment, name, rows in re.findall(r"((?:^-- .*\n)+)abbrev pub (\w+)_rows : List Row\n\w+ =\n((?:    .*\n)+)", text, re.M):
         rows = " ".join(rows.split())
-        told = [row_of(found) for found in re.finditer(rf"(hidden \()?(?:{FIELD}|{COMPUTED})", rows)]
+        told = [row_of(found) for found in re.finditer(rf"(?:(hidden|column_only) \()?(?:{FIELD}|{COMPUTED})", rows)]
         if len(told) != rows.count("∷"):
             raise SystemExit(f"{TABLE}: a row of {name}_rows can't be read")
         blocks[name] = (" ".join(line.removeprefix("-- ") for line in comment.splitlines()), told)
@@ -67,12 +68,13 @@ def names():
 
 def row_of(found):
     """A row by its match."""
-    hidden, *field = found.groups()
+    among, *field = found.groups()
+    is_member, is_column = among is None, among != "hidden"
     name, title, abbreviation, kind, extent, bits, number, symbol, *computed = field
     if name is None:
         name, title, kind = computed
-        return Row(name, title, "", kind, "Computed", 0, 0, "", True)
-    return Row(name, title, abbreviation or "", kind, extent, int(bits or 0), int(number), symbol, not hidden)
+        return Row(name, title, "", kind, "Computed", 0, 0, "", is_member, is_column)
+    return Row(name, title, abbreviation or "", kind, extent, int(bits or 0), int(number), symbol, is_member, is_column)
 
 
 def rows_of(blocks):
@@ -96,7 +98,7 @@ def rust_row(section, row, index):
     extent = f"Extent::{row.extent}" + (f"({row.bits})" if row.extent == "Bits" else "")
     values = [("name", rust_text(row.name)), ("key", rust_text(key)), ("column", rust_text(column)),
               ("title", rust_text(row.title)), ("abbreviation", rust_text(row.abbreviation)), ("kind", f"Kind::{row.kind}"), ("extent", extent), ("number", row.number),
-              ("symbol", rust_text(row.symbol)), ("is_member", str(row.is_member).lower())]
+              ("symbol", rust_text(row.symbol)), ("is_member", str(row.is_member).lower()), ("is_column", str(row.is_column).lower())]
     return "    Field {\n" + "".join(f"        {name}: {value},\n" for name, value in values) + "    },\n"
 
 
@@ -160,7 +162,7 @@ def format_columns(blocks):
     """The list of columns in docs/FORMAT.md."""
     lines = ["Section | Columns", "---|---"]
     for name, block, is_header in SECTIONS:
-        names = ", ".join(f"`{row.name}`" for row in blocks[block][1] if row.is_member)
+        names = ", ".join(f"`{row.name}`" for row in blocks[block][1] if row.is_column)
         lines.append(f"`{name}` | {'those of `headers`, and ' if is_header else ''}{names}")
     return "\n".join(lines) + "\n"
 
@@ -169,7 +171,7 @@ def manual_columns(blocks):
     """The list of columns in the manual."""
     lines = []
     for name, block, is_header in SECTIONS:
-        names = [row.name for row in blocks[block][1] if row.is_member]
+        names = [row.name for row in blocks[block][1] if row.is_column]
         lines += [".TP", f".B {name}", *(["those of headers, and"] if is_header else []), ".BR " + ' ", " '.join(names)]
     return "\n".join(lines) + "\n"
 

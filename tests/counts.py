@@ -10,13 +10,18 @@ import tempfile
 from functools import partial
 from shutil import which
 
-from made_captures import CLASSIC, INPUT, classic, joined, record_is_cut
-from formats import drawn
+from made_captures import CLASSIC, ETHERNET, INPUT, SECTION_HEADER, classic, joined, record_is_cut
+from formats import drawn, optioned
 from programs import run_apart
 
 ARP = classic(joined("ffffffffffff 020000000001 0806 0001 0800 06 04 0001 020000000001 0a000001 000000000000 0a000002"))
 TAGS = classic(joined("ffffffffffff 020000000001 88a8 a001 8100 0005 0800 aabb"), joined("ffffffffffff 020000000001 0800"),
                joined("ffffffffffff 020000000001 0800 4500"))
+
+UNTAGGED, TAGGED = "ffffffffffff 020000000001 0800", "ffffffffffff 020000000001 8100 0005 0800"
+MINUTES = classic() + b"".join(
+    seconds.to_bytes(4, "big") + bytes(4) + 2 * len(joined(frame)).to_bytes(4, "big") + joined(frame)
+    for seconds, frame in ((1700006340, TAGGED), (1700006399, UNTAGGED), (1700006399, TAGGED), (1700006400, TAGGED)))
 
 # What is counted, by hand: name, capture, words, status, and for each text of a column its packets and their bytes.
 COUNTS = [
@@ -79,6 +84,15 @@ vlan.vid	vlan.pcp	eth.type	1,5	5,0	0x88A8	1	24
     ("who claims an address", ARP, ["arp.spa,arp.sha"], 0, "arp.spa	arp.sha	10.0.0.1	02:00:00:00:00:01	1	42\ntotal		1	42\n"),
     ("packets that are selected", CLASSIC, ["fault.kind,vlan.vid", "--select", "vlan 291"], 0, "fault.kind	vlan.vid		291	1	46\ntotal		1	46\n"),
     ("no packet", classic(), ["eth.src,eth.dst"], 0, "total		0	0\n"),
+    # seconds since 1970 and tags: 23:59:59 and 00:00:00 of the next minute, hour and day, as `date -u -d @SECONDS` prints them
+    ("minutes and tags", MINUTES, ["frame.minute,vlan.vid"], 0, """\
+frame.minute	vlan.vid	2023-11-14T23:59Z		1	14
+frame.minute	vlan.vid	2023-11-14T23:59Z	5	2	36
+frame.minute	vlan.vid	2023-11-15T00:00Z	5	1	18
+total		4	68
+"""),
+    ("hours", MINUTES, ["frame.hour"], 0, "frame.hour	2023-11-14T23Z	3	50\nframe.hour	2023-11-15T00Z	1	18\ntotal		4	68\n"),
+    ("days", MINUTES, ["frame.day"], 0, "frame.day	2023-11-14	3	50\nframe.day	2023-11-15	1	18\ntotal		4	68\n"),
     ("the same column twice", ARP, ["arp.op,arp.op", "--format", "lines"], 0, "arp.op	arp.op	1	1	1	42\ntotal		1	42\n"),
 ]
 
@@ -106,6 +120,14 @@ SUMS = [
 ]
 
 
+# Of a comment with bytes that JSON escapes: words, and what is printed
+COMMENTED = [
+    ([], "frame.comment\tsay \"a\\tb\"\t1\t14\ntotal\t\t1\t14\n"),
+    (["--format", "json"], '{"column":"frame.comment","value":"say \\"a\\\\tb\\"","packets":1,"bytes":14}\n'
+     '{"column":"total","value":"","packets":1,"bytes":14}\n'),
+]
+
+
 def as_objects(text):
     """What JSON has for these lines."""
     rows = [line.split("\t") for line in text.splitlines()]
@@ -129,6 +151,9 @@ def examples(program):
     line = '{"column":"vlan.vid","value":"291","packets":1,"bytes":46}\n'
     found = partial(run_apart, program, ["--stats", "--format", "json", "--fields", "vlan.vid", "--select", "vlan 291"], CLASSIC)
     yield "counts as JSON, byte for byte", found, ('{"column":"total","value":"","packets":1,"bytes":46}\n' + line, "", 0)
+    for words, wanted in COMMENTED:
+        capture = SECTION_HEADER + ETHERNET + optioned([(1, b'say "a\tb"')])
+        yield f"counts of comments: {words}", partial(run_apart, program, ["--stats", "--fields", "frame.comment", *words], capture), (wanted, "", 0)
     yield ("counts up to a cut record", partial(run_apart, program, ["--stats", "--fields", "vlan.vid"], TAGS[:82]),
            ("total\t\t1\t24\nvlan.vid\t1,5\t1\t24\n", INPUT + record_is_cut(64, 30, 18), 3))
     for name, text, words, status, sums, said in SUMS:

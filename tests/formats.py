@@ -21,8 +21,9 @@ JSON, BRIEF = ["--format", "json"], ["--format", "brief"]
 BROADCAST, STATION = "ff:ff:ff:ff:ff:ff", "3a:ee:b6:2f:f6:d7"
 
 
-def packet(number, time, link, captured, original, headers, interface=None, **end):
-    return {"number": number, "time": time, "link": link, "captured": captured, "original": original, "interface": interface, "headers": headers, **end}
+def packet(number, time, link, captured, original, headers, interface=None, direction=None, comment=None, **end):
+    return {"number": number, "time": time, "link": link, "captured": captured, "original": original, "interface": interface, "direction": direction,
+            "comment": comment, "headers": headers, **end}
 
 
 def placed(name, start, end, payload_end, closed=False, **members):
@@ -196,7 +197,7 @@ BRIEF_ENDS = [
 # The example of `write_packet`: 14 of 60 bytes, captured a microsecond after a full second.
 DOCUMENTED = joined("a1b23c4d 0002 0004 00000000 00000000 00040000 00000001", "6553f100 000003e8 0000000e 0000003c", "ffffffffffff 020000000001 0800")
 DOCUMENTED_LINE = (
-    '{"number":1,"time":"2023-11-14T22:13:20.000001000Z","link":1,"captured":14,"original":60,"interface":null,"headers":[{"header":"eth",'
+    '{"number":1,"time":"2023-11-14T22:13:20.000001000Z","link":1,"captured":14,"original":60,"interface":null,"direction":null,"comment":null,"headers":[{"header":"eth",'
     '"start":0,"end":14,"payload_end":14,"closed":false,"dst":"ff:ff:ff:ff:ff:ff","src":"02:00:00:00:00:01","type":2048,'
     '"fcs":null}],"rest":{"start":14,"end":14,"kind":"ether_type","type":2048}}\n')
 
@@ -206,6 +207,9 @@ LATE = interface("09000100 03000000 00000000") + b"".join(
     block(6, "00000000", time, "14000000 14000000", "020000000001 020000000002 88b5 010203040506") for time in ("77e60000 ffdb1fd2", "77e60000 7bdc1fd2"))
 LATE_TIMES = [(JSON, r'"time":([^,]*),', ['"9999-12-31T23:59:59.999000000Z"', "253402300800.123000000"]),
               (BRIEF, r"\d+ (\S+) ", ["9999-12-31T23:59:59.999000Z", "253402300800.123000"]),
+              (["--fields", "frame.minute"], r"(.*)", ["9999-12-31T23:59Z", ""]),
+              (["--fields", "frame.hour"], r"(.*)", ["9999-12-31T23Z", ""]),
+              (["--fields", "frame.day"], r"(.*)", ["9999-12-31", ""]),
               (["--fields", "frame.time"], r"(.*)", ["9999-12-31T23:59:59.999000000Z", "253402300800.123000000"]),
               ([], r"frame \d time (\S+) .*", ["253402300799.999000000", "253402300800.123000000"])]
 
@@ -230,6 +234,39 @@ ROWS = [
      ["1\t2023-11-14T22:13:20.123456000Z\t\t\t", "113\t2023-11-14T22:13:20.123456789Z\t02:00:00:00:00:01\tether_type\t16", "1\t\t\tether_type\t18",
       "101\t1970-01-01T00:00:00.000001000Z\t\tskipped\t0"]),
 ]
+# Comments on a packet: their bytes; in JSON, where each byte above 127 of a text that is not UTF-8 is U+FFFD; in a row; as a field of CSV.
+COMMENTS = [
+    (b"seen on port 3", "seen on port 3", b"seen on port 3", b"seen on port 3"),
+    (b"a\tb\nc\rd\\e", "a\tb\nc\rd\\e", rb"a\tb\nc\rd\\e", b'"a\tb\nc\rd\\e"'),
+    (b'say "hi", now', 'say "hi", now', b'say "hi", now', b'"say ""hi"", now"'),
+    ("Gr\u00fc\u00dfe \U0001f600".encode(), "Gr\u00fc\u00dfe \U0001f600", "Gr\u00fc\u00dfe \U0001f600".encode(), "Gr\u00fc\u00dfe \U0001f600".encode()),
+    (b"\xff\xc3(", "\ufffd\ufffd(", b"\xff\xc3(", b"\xff\xc3("),
+    (b"\x00\x01\x1f\x7f", "\x00\x01\x1f\x7f", b"\x00\x01\x1f\x7f", b"\x00\x01\x1f\x7f"),
+    (b"", "", b"", b""),
+]
+# bits 0 and 1 of the flags of a packet (draft-ietf-opsawg-pcapng, 4.3.1), with others: unicast, promiscuous, errors
+DIRECTIONS = [(0x04, None), (0x05, "inbound"), (0xFF00_0012, "outbound"), (0x0B, None)]
+
+
+def optioned(options, order="little", number=6):
+    """A block of a packet of 14 bytes on interface 0, after a microsecond, with these options: codes and values."""
+    told = b"".join(code.to_bytes(2, order) + len(it).to_bytes(2, order) + it + bytes(-len(it) % 4) for code, it in options)
+    words = b"".join(it.to_bytes(4, order) for it in (0, 0, 1, 14, 14))
+    body = words + joined("020000000001 020000000002 88b5 0000") + told + (bytes(4) if options else b"")
+    total_len = (12 + len(body)).to_bytes(4, order)
+    return number.to_bytes(4, order) + total_len + body + total_len
+
+
+def with_comments():
+    """A capture with these comments, and one packet without any."""
+    return SECTION_HEADER + ETHERNET + b"".join(optioned([(1, it[0]), (1, b"second")]) for it in COMMENTS) + optioned([])
+
+
+def with_directions(number=6):
+    """A capture with these directions, and one packet without any."""
+    return SECTION_HEADER + ETHERNET + b"".join(optioned([(2, it.to_bytes(4, "little"))], number=number) for it, _ in DIRECTIONS) + optioned([], number=number)
+
+
 # five VLAN tags in one frame, and none in the next
 MANY_TAGS = classic(joined("ffffffffffff 020000000001", *(f"8100 000{it}" for it in range(1, 6)), "0800"), joined("ffffffffffff 020000000001 0800"))
 PROTOCOLS = {"type", "pro", "protocol"}  # columns in which a number is spelled as an ether type
@@ -237,7 +274,9 @@ PROTOCOLS = {"type", "pro", "protocol"}  # columns in which a number is spelled 
 
 def columns_of(packet):
     """All columns of a packet, by hand from its members: each section with its members' values, and commas between those of several headers."""
-    sections = [("frame", {it: packet[it] for it in ("number", "time", "link", "captured", "original", "interface")})]
+    sections = [("frame", {it: packet[it] for it in ("number", "time", "link", "captured", "original", "interface", "direction", "comment")})]
+    time = packet["time"]
+    sections.append(("frame", dict(zip(("minute", "hour", "day"), (time[:16] + "Z", time[:13] + "Z", time[:10]) if time else [None] * 3))))
     for it in packet["headers"]:
         sections += [(it["header"], it), ("headers", {name: it[name] for name in ("header", "start", "end", "payload_end", "closed")})]
     sections += [(name, packet[name]) for name in ("rest", "fault") if name in packet]
@@ -275,6 +314,11 @@ def csv_bytes(program, words, capture):
     """What is printed as CSV, byte for byte, and the status."""
     done = subprocess.run([program, "--format", "csv", *words], input=capture, capture_output=True, check=False)
     return done.stdout.decode(), done.returncode
+
+
+def raw_bytes(program, words, capture):
+    """What is printed, byte for byte."""
+    return subprocess.run([program, *words], input=capture, capture_output=True, check=False).stdout
 
 
 def csv_records(program, words, capture):
@@ -331,6 +375,24 @@ def examples(program):
             some = names[at:at + 32]
             lines = "".join("\t".join(it.get(column, "") for column in some) + "\n" for it in found)
             yield f"{name} in all columns, from {some[0]} on", partial(run, program, ["--fields", ",".join(some)], capture), (lines, status)
+    comments = with_comments()
+    yield "comments as JSON", partial(members, program, JSON, comments, "comment"), [*(it[1] for it in COMMENTS), None]
+    yield "comments in rows", partial(raw_bytes, program, ["--fields", "frame.comment,frame.number"], comments), b"".join(
+        it + b"\t%d\n" % number for number, it in enumerate([*(it[2] for it in COMMENTS), b""], 1))
+    yield "comments as CSV", partial(raw_bytes, program, ["--format", "csv", "--fields", "frame.comment,frame.number"], comments), b"".join(
+        it + b",%d\r\n" % number for number, it in enumerate([*(it[3] for it in COMMENTS), b""], 1))
+    yield "control characters as JSON", partial(raw_bytes, program, JSON, SECTION_HEADER + ETHERNET + optioned([(1, b"\t\"\\")])), (
+        b'{"number":1,"time":"1970-01-01T00:00:00.000001000Z","link":1,"captured":14,"original":14,"interface":0,"direction":null,'
+        b'"comment":"\\u0009\\"\\\\","headers":[{"header":"eth","start":0,"end":14,"payload_end":14,"closed":false,"dst":"02:00:00:00:00:01",'
+        b'"src":"02:00:00:00:00:02","type":34997,"fcs":null}],"rest":{"start":14,"end":14,"kind":"ether_type","type":34997}}\n')
+    for name, number in (("", 6), (" of obsolete packet blocks", 2)):
+        yield f"directions as JSON{name}", partial(members, program, JSON, with_directions(number), "direction"), [*(it for _, it in DIRECTIONS), None]
+        yield f"directions in rows{name}", partial(run, program, ["--fields", "frame.direction"], with_directions(number)), (
+            "".join(f"{it or ''}\n" for it in [*(it for _, it in DIRECTIONS), None]), 0)
+    big = joined("0a0d0d0a 0000001c 1a2b3c4d 00010000 ffffffffffffffff 0000001c", "00000001 00000014 00010000 00000000 00000014")
+    flagged = optioned([(3, b"hash"), (2, joined("00000002")), (1, b"of b"), (2, joined("00000001"))], "big")
+    yield "the first options, most significant byte first", partial(run, program, ["--fields", "frame.direction,frame.comment"], big + flagged), ("outbound\tof b\n", 0)
+    yield "flags of two bytes", partial(run, program, ["--fields", "frame.direction"], SECTION_HEADER + ETHERNET + optioned([(2, b"\1\0")])), ("\n", 0)
     yield "the example of the documentation", partial(run, program, JSON, DOCUMENTED), (DOCUMENTED_LINE, 0)
     whole = run(program, JSON, CLASSIC)[0]
     first, second = whole.splitlines(keepends=True)
@@ -467,6 +529,24 @@ def interfaces(program):
         ours, theirs = (subprocess.run([*words, file.name], capture_output=True, text=True, check=False).stdout.splitlines()
                         for words in ([program, "--fields", "frame.interface"], ["tshark", "-n", "-T", "fields", "-e", "frame.interface_id", "-r"]))
     return [("interfaces", ours, wanted), ("interfaces by tshark", theirs, wanted)]
+
+
+def flags_and_comments(program):
+    """The directions and the first comments of 200 drawn packets are those of tshark."""
+    draw = random.Random(2)
+    signs = "abc \u00e9\u4e2d\U0001f600\t\n\r\",'"
+    told = [(draw.randrange(4), "".join(draw.choice(signs) for _ in range(draw.randrange(1, 20)))) for _ in range(200)]
+    flags = [(2, kind.to_bytes(4, "little")) for kind, _ in told]
+    packets = [optioned(draw.sample([(1, text.encode()), flag], 2)) for (_, text), flag in zip(told, flags)]
+    with tempfile.NamedTemporaryFile(suffix=".pcapng") as file:
+        file.write(b"".join([SECTION_HEADER, ETHERNET, *packets]))
+        file.flush()
+        ours, theirs = ([line.split("\t") for line in subprocess.run([*words, file.name], capture_output=True, check=False).stdout.decode().split("\n")[:-1]]
+                        for words in ([program, "--fields", "frame.direction,frame.comment"],
+                                      ["tshark", "-n", "-T", "fields", "-e", "frame.packet_flags_direction", "-e", "frame.comment", "-r"]))
+    words = ["", "inbound", "outbound", ""]
+    theirs = [[words[int(number, 16)], text] for number, text in theirs]
+    return [("directions and comments", len(ours), 200), ("directions and comments by tshark", ours, theirs)]
 
 
 def readers(program):

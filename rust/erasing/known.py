@@ -33,7 +33,7 @@ NAMES = set(
 # Paths of Rust and of the crate arrayvec, whole.
 PATHS = set(
     """arrayvec::ArrayVec core::error::Error core::fmt core::fmt::Debug core::fmt::Display core::fmt::Write
-    core::hash::Hash core::hash::Hasher core::net::Ipv4Addr core::ops::Range
+    core::hash::Hash core::hash::Hasher core::net::Ipv4Addr core::ops::Range core::str::from_utf8
     fmt::Debug fmt::Display fmt::Display::fmt fmt::Formatter fmt::Result fmt::Write ArrayVec::new Ipv4Addr::new char::from
     u8::from u16::from u32::from u64::from u128::from usize::from u16::try_from u32::try_from
     u64::try_from u32::MAX u64::MAX usize::MAX

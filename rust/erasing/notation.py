@@ -122,6 +122,7 @@ SECTIONS = {
          "at the same index."),
         ("bytes_eq", "bytes_eq xs ys", "Whether two lists of bytes are equal."),
         ("codes", 'codes "text"', "The bytes of an ASCII text."),
+        ("is_utf8", "is_utf8 xs", "Whether bytes are UTF-8."),
         ("ipv4_octets", "ipv4_octets a", "The four bytes of an `Ipv4Addr`."),
     ],
     "Options and results": [

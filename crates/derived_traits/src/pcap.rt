@@ -8,9 +8,9 @@ ghost use Rattle.ether_pcap.specs.CaptureViews.{captured_packet_view};
 
 use ether_pcap::{
     BlockError, BodyError, ByteOrder, CaptureError, CaptureFault, CapturePackets, CaptureUnit,
-    CapturedPacket, EnhancedPacket, FileHeader, FileHeaderError, InterfaceDescription, LinkType,
-    PcapRecord, PcapngBlock, RecordError, RecordFault, SectionError, SectionHeader, SimplePacket,
-    Timestamp, TimestampResolution,
+    CapturedPacket, Direction, EnhancedPacket, FileHeader, FileHeaderError, InterfaceDescription,
+    LinkType, PcapRecord, PcapngBlock, RecordError, RecordFault, SectionError, SectionHeader,
+    SimplePacket, Timestamp, TimestampResolution,
 };
 
 /// A clone is `Ok` and equals its source.
@@ -45,6 +45,8 @@ pub fn clones()
         (a b : _) → it.is_infallible a × (it.is_clone a b → b ≡ a) }
     ensures simple_packet { let it = ⟦<SimplePacket<'static> as Clone>⟧ in
         (a b : _) → it.is_infallible a × (it.is_clone a b → b ≡ a) }
+    ensures direction { let it = ⟦<Direction as Clone>⟧ in
+        (a b : _) → it.is_infallible a × (it.is_clone a b → b ≡ a) }
     ensures captured_packet { let it = ⟦<CapturedPacket<'static> as Clone>⟧ in
         (a b : _) → it.is_infallible a × (it.is_clone a b → b ≡ a) }
     ensures capture_unit { let it = ⟦<CaptureUnit<'static> as Clone>⟧ in
@@ -56,6 +58,7 @@ pub fn equality()
     ensures byte_order { (a b : _) → IsTrue (⟦<ByteOrder as PartialEq>⟧.eq a b) ↔ (a ≡ b) }
     ensures timestamp_resolution { (a b : _) → IsTrue (⟦<TimestampResolution as PartialEq>⟧.eq a b) ↔ (a ≡ b) }
     ensures link_type { (a b : _) → IsTrue (⟦<LinkType as PartialEq>⟧.eq a b) ↔ (a ≡ b) }
+    ensures direction { (a b : _) → IsTrue (⟦<Direction as PartialEq>⟧.eq a b) ↔ (a ≡ b) }
     ensures file_header { (a b : _) → IsTrue (⟦<FileHeader as PartialEq>⟧.eq a b) ↔ (a ≡ b) }
     ensures file_header_error { (a b : _) → IsTrue (⟦<FileHeaderError as PartialEq>⟧.eq a b) ↔ (a ≡ b) }
     ensures record_error { (a b : _) → IsTrue (⟦<RecordError as PartialEq>⟧.eq a b) ↔ (a ≡ b) }

@@ -18,6 +18,8 @@ abbrev pub packet_value : EtherCaptured → PacketValue
 packet_value c = record {
   time = marked c.has_time (captured_time c);
   interface = None;
+  direction = None;
+  comment = None;
   original_len = c.original_len;
   link_type = c.link_type;
   snap_len = 0;

@@ -72,6 +72,8 @@ impl<'a> EtherCaptured<'a> {
         CapturedPacket {
             time,
             interface: None,
+            direction: None,
+            comment: None,
             original_len: self.original_len,
             link_type: LinkType(self.link_type),
             snap_len: 0,

@@ -9,6 +9,7 @@ use Rattle.std.specs.Map.{lookup}
 use Rattle.std.specs.Str.{bytes_eq}
 use Rattle.ether_capture.specs.RowFields.{after_first, row_fields, lines_counts, lines_of}
 use Rattle.ether_output.specs.OutputBuffer.{Takes}
+use Rattle.ether_format.specs.Spelling.{json_text}
 use Rattle.ether_capture.specs.declared.count.Count.{Count}
 use Rattle.ether_capture.specs.declared.statistics_format.StatisticsFormat.{StatisticsFormat}
 use Rattle.ether_capture.specs.declared.statistics_format.StatisticsFormat.TheVariants.{Text, Json}
@@ -32,8 +33,8 @@ abbrev pub statistics_line : StatisticsFormat → StatisticsRow → List ℕ
 statistics_line Text r = fields_line r
 statistics_line Json r =
     codes "{\"column\":\"" ++ (first_in (row_fields r.key)
-    ++ (codes "\",\"value\":\"" ++ (first_in (after_first (row_fields r.key))
-    ++ (codes "\",\"packets\":"
+    ++ (codes "\",\"value\":" ++ (json_text (first_in (after_first (row_fields r.key)))
+    ++ (codes ",\"packets\":"
     ++ (decimal r.count.packets ++ (codes ",\"bytes\":" ++ (decimal r.count.bytes ++ codes "}\n")))))))
 
 -- these are all keys of a table, each once, in the order of their bytes

@@ -6,6 +6,7 @@ ghost use Rattle.ether_capture.specs.Statistics.{fields_line, first_in, statisti
 
 use crate::count::Count;
 use crate::row_counts::first_field;
+use ether_format::write_json_text;
 use ether_output::{OutputBuffer, Sink, write_decimal};
 
 /// How packets are counted, and how their counts are written.
@@ -42,9 +43,9 @@ pub(crate) fn write_statistic<W: Sink>(
             let (column, text) = parts_of(key);
             out.append(b"{\"column\":\"");
             out.append(column);
-            out.append(b"\",\"value\":\"");
-            out.append(text);
-            out.append(b"\",\"packets\":");
+            out.append(b"\",\"value\":");
+            write_json_text(text, out);
+            out.append(b",\"packets\":");
             write_decimal(out, count.packets as u64);
             out.append(b",\"bytes\":");
             write_decimal(out, count.bytes as u64);

@@ -17,6 +17,8 @@ use etherparse::{ArpHardwareId, EtherType, LinuxSllPacketType, LinuxSllProtocolT
 /// let packet = CapturedPacket {
 ///     time: None,
 ///     interface: None,
+///     direction: None,
+///     comment: None,
 ///     original_len: 18,
 ///     link_type: LinkType::LINUX_SLL,
 ///     snap_len: 262_144,

@@ -98,6 +98,8 @@ const FREE: usize = 4;
 /// let packet = CapturedPacket {
 ///     time: None,
 ///     interface: None,
+///     direction: None,
+///     comment: None,
 ///     original_len: 60,
 ///     link_type: LinkType::ETHERNET,
 ///     snap_len: 262_144,

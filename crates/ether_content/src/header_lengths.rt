@@ -22,6 +22,8 @@ use ether_sll2::{LinuxSll2Header, LinuxSll2Slice};
 /// let packet = CapturedPacket {
 ///     time: None,
 ///     interface: None,
+///     direction: None,
+///     comment: None,
 ///     original_len: 60,
 ///     link_type: LinkType::ETHERNET,
 ///     snap_len: 262_144,

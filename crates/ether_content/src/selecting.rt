@@ -16,6 +16,8 @@ use ether_pcap::CapturedPacket;
 /// let packet = CapturedPacket {
 ///     time: None,
 ///     interface: None,
+///     direction: None,
+///     comment: None,
 ///     original_len: 60,
 ///     link_type: LinkType::ETHERNET,
 ///     snap_len: 262_144,
@@ -55,6 +57,8 @@ pub fn is_undecided(filter: &Filter, packet: &CapturedPacket<'_>) -> bool
 /// let packet = CapturedPacket {
 ///     time: None,
 ///     interface: None,
+///     direction: None,
+///     comment: None,
 ///     original_len: 60,
 ///     link_type: LinkType::ETHERNET,
 ///     snap_len: 16,

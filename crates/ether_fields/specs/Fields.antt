@@ -36,10 +36,15 @@ section_rows Fault = fault_rows
 abbrev pub column_name : Section → Row → List ℕ
 column_name s r = section_name s ++ (codes "." ++ r.name)
 
--- the names of those that objects and columns have
+-- the names of those that objects have
 abbrev pub member_names : List Row → List (List ℕ)
 member_names [] = []
 member_names (r ∷ rs) = if r.is_member then r.name ∷ member_names rs else member_names rs
+
+-- .. and of those that are columns
+abbrev pub column_names : List Row → List (List ℕ)
+column_names [] = []
+column_names (r ∷ rs) = if r.is_column then r.name ∷ column_names rs else column_names rs
 
 -- ---- fields by number
 
@@ -72,6 +77,7 @@ field_view f = record {
   number = f.number;
   symbol = f.symbol.now;
   is_member = f.is_member;
+  is_column = f.is_column;
 }
 
 -- a name in an object (RFC 8259, 4), after what precedes it

@@ -6,8 +6,8 @@ use Rattle.ether_fields.specs.declared.kind.Kind.{Kind}
 use Rattle.ether_fields.specs.declared.kind.Kind.TheVariants as kind
 
 -- The name of a field in its section, what its standard calls it, and the standard's abbreviation if there is one; what
--- its value is, and how many bits it has; its number for C and the end of its name there; and whether it is a member of
--- objects and a column.
+-- its value is, and how many bits it has; its number for C and the end of its name there; whether it is a member of
+-- objects; and whether it is a column.
 pub record Row : Type 0 where
   pub name : List ℕ
   pub title : List ℕ
@@ -17,6 +17,7 @@ pub record Row : Type 0 where
   pub number : ℕ
   pub symbol : List ℕ
   pub is_member : Bool
+  pub is_column : Bool
 
 -- a field
 abbrev pub field : (name title abbreviation : List ℕ) → Kind → Extent → (number : ℕ) → (symbol : List ℕ) → Row
@@ -29,11 +30,16 @@ field name title abbreviation kind extent number symbol = record {
   number = number;
   symbol = symbol;
   is_member = true;
+  is_column = true;
 }
 
 -- .. that no object or column has
 abbrev pub hidden : Row → Row
-hidden row = record row { is_member = false }
+hidden row = record row { is_member = false; is_column = false }
+
+-- .. that is a column alone
+abbrev pub column_only : Row → Row
+column_only row = record row { is_member = false }
 
 -- a member that has no bits
 abbrev pub computed : (name title : List ℕ) → Kind → Row
@@ -128,7 +134,7 @@ arp_rows =
 
 -- ---- what else a packet tells
 
--- the packet itself (pcapng, 4.3)
+-- the packet itself (pcapng, 4.3), and the minute, the hour and the day of its time
 abbrev pub frame_rows : List Row
 frame_rows =
     computed (codes "number") (codes "Number") kind.Number
@@ -137,6 +143,11 @@ frame_rows =
     ∷ computed (codes "captured") (codes "Captured length") kind.Number
     ∷ computed (codes "original") (codes "Original length") kind.Number
     ∷ computed (codes "interface") (codes "Interface ID") kind.Number
+    ∷ computed (codes "direction") (codes "Direction") kind.Word
+    ∷ computed (codes "comment") (codes "Comment") kind.Bytes
+    ∷ column_only (computed (codes "minute") (codes "Minute") kind.Time)
+    ∷ column_only (computed (codes "hour") (codes "Hour") kind.Time)
+    ∷ column_only (computed (codes "day") (codes "Day") kind.Time)
     ∷ []
 
 -- each header: its name and its place

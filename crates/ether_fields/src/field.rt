@@ -30,8 +30,10 @@ pub struct Field {
     pub number: u32,
     /// The end of its name in that enumeration, as `VLAN_VID`.
     pub symbol: &'static str,
-    /// Whether objects and columns have it.
+    /// Whether objects have it.
     pub is_member: bool,
+    /// Whether it is a column.
+    pub is_column: bool,
 }
 
 /// The sections.

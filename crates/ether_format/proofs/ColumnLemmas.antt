@@ -7,7 +7,7 @@ use Rattle.etherparse.specs.Ethernet2.{ethernet2_of, fcs_of}
 use Rattle.ether_peel.specs.Walker.UnitHeader.{unit_header}
 use Rattle.ether_peel.specs.declared.peel_unit.PeelUnit.{PeelUnit}
 use Rattle.ether_peel.specs.declared.peel_unit.PeelUnit.TheVariants as units
-use Rattle.ether_fields.specs.Fields.{member_names, section_name, section_rows}
+use Rattle.ether_fields.specs.Fields.{column_names, member_names, section_name, section_rows}
 use Rattle.ether_fields.specs.Rows.{place_rows}
 use Rattle.ether_fields.specs.declared.section.Section.{Section}
 use Rattle.ether_fields.specs.declared.section.Section.TheVariants as sections
@@ -143,23 +143,36 @@ few_end_values (ends.Fault start closed cause) = omega arith
 -- ---- the members of a section are those that columns name
 
 names_header : (place : Place) (h : Header) (fcs : Option (List ℕ))
-    → map (λ m. m.name) (told_members (Walked place h fcs))
-    ≡ member_names (section_rows (told_section (Walked place h fcs)))
-names_header place (headers.Ethernet2 e) fcs = refl
-names_header place (headers.Ethernet2Fcs e) fcs = refl
-names_header place (headers.LinuxSll s) fcs = refl
-names_header place (headers.Vlan v) fcs = refl
-names_header place (headers.Macsec t) fcs = refl
-names_header place (headers.Arp a) fcs = refl
+    → (map (λ m. m.name) (told_members (Walked place h fcs))
+    ≡ member_names (section_rows (told_section (Walked place h fcs))))
+    × (map (λ m. m.name) (told_members (Walked place h fcs))
+    ≡ column_names (section_rows (told_section (Walked place h fcs))))
+names_header place (headers.Ethernet2 e) fcs = (refl, refl)
+names_header place (headers.Ethernet2Fcs e) fcs = (refl, refl)
+names_header place (headers.LinuxSll s) fcs = (refl, refl)
+names_header place (headers.Vlan v) fcs = (refl, refl)
+names_header place (headers.Macsec t) fcs = (refl, refl)
+names_header place (headers.Arp a) fcs = (refl, refl)
 
-names_told : (h : Told) → map (λ m. m.name) (told_members h) ≡ member_names (section_rows (told_section h))
+names_told : (h : Told)
+    → (map (λ m. m.name) (told_members h) ≡ member_names (section_rows (told_section h)))
+    × (map (λ m. m.name) (told_members h) ≡ column_names (section_rows (told_section h)))
 names_told (Walked place h fcs) = names_header place h fcs
-names_told (CookedV2 place s) = refl
+names_told (CookedV2 place s) = (refl, refl)
 
-names_end : (end : End) → map (λ m. m.name) (end_members end) ≡ member_names (section_rows (end_section end))
-names_end (ends.Rest start finish kind) = refl
-names_end (ends.Skipped len) = refl
-names_end (ends.Fault start closed cause) = refl
+names_end : (end : End)
+    → (map (λ m. m.name) (end_members end) ≡ member_names (section_rows (end_section end)))
+    × (map (λ m. m.name) (end_members end) ≡ column_names (section_rows (end_section end)))
+names_end (ends.Rest start finish kind) = (refl, refl)
+names_end (ends.Skipped len) = (refl, refl)
+names_end (ends.Fault start closed cause) = (refl, refl)
 
 pub columns_are_members : ColumnsAreMembers
-columns_are_members = record { packet = λ number p moment. refl; header = names_told; end = names_end }
+columns_are_members = record {
+  packet = λ number p moment. refl;
+  packet_column = λ number p moment. refl;
+  header = λ h. (names_told h).0;
+  end = λ end. (names_end end).0;
+  header_column = λ h. (names_told h).1;
+  end_column = λ end. (names_end end).1;
+}

@@ -1,7 +1,7 @@
 -- The fields of CSV: a column is enclosed exactly if it has several values.
 use Rattle.std.proofs.Common.{◌≡◌, ℕ, zero, suc, ◌+◌, ◌<◌, ◌≤◌, List, [], ◌∷◌, ◌++◌, drop, length, map, Bool, true, false, Option, refl, sym, ap, ◌∙◌, append-nil, append_assoc, inl, inr, arith}
-use Rattle.std.specs.Prelude.{◌⊎◌, ◌&&◌, ⊤, nat_eq, not, codes, if◌then◌else◌, Some, None, slice_index_or}
-use Rattle.std.specs.List.{flat_map}
+use Rattle.std.specs.Prelude.{◌≢◌, ◌⊎◌, ◌&&◌, ⊤, nat_eq, not, codes, if◌then◌else◌, Some, None, slice_index_or}
+use Rattle.std.specs.List.{flat_map, join_by}
 use Rattle.std.specs.Str.{bytes_eq}
 use Rattle.ether_base.specs.declared.len_source.LenSource.{LenSource}
 use Rattle.ether_base.specs.declared.len_source.LenSource.TheVariants as sources
@@ -31,20 +31,20 @@ use Rattle.ether_format.specs.declared.found.Found.{Found}
 use Rattle.ether_format.specs.declared.moment.Moment.{Moment}
 use Rattle.ether_format.specs.declared.place.Place.{Place}
 use Rattle.ether_format.specs.Columns.{ColumnValue, column_name, column_text, column_view, name_at, section, sections as sections_told, values_in, values_named}
-use Rattle.ether_format.specs.Counted.{CountsHeader, counted, is_several, quote_if}
-use Rattle.ether_format.specs.Csv.{csv_field, csv_record, escaped, has_special}
+use Rattle.ether_format.specs.Counted.{CountsHeader, counted, is_several, only_text, quote_if}
+use Rattle.ether_format.specs.Csv.{csv_field, csv_record, csv_text, csv_value, escaped, has_special}
 use Rattle.ether_format.specs.Found.{found_told}
 use Rattle.ether_format.specs.Gathered.{shown_values}
-use Rattle.ether_format.specs.Members.{Value, Number, Bytes, Time, Dotted, if_some, members, packet_values, payload_type_value, payload_word, protocol_address}
+use Rattle.ether_format.specs.Members.{Value, Bytes, Dotted, if_some, members, packet_columns, payload_type_value, payload_word, protocol_address}
 use Rattle.ether_format.specs.Spelling.{column_value}
 use Rattle.ether_format.specs.Told.{Told, Walked, CookedV2, end_section, end_values, header_values, kind_value, kind_word, own_values, place_values, protocol_value, protocol_word, told_place, told_place_values, told_section, told_values}
 use Rattle.ether_format.specs.Values.{column_on, end_shown, header_shown, if_any, is_end_section, value_at}
 use Rattle.ether_format.specs.Visits.{Visited}
 use Rattle.ether_format.proofs.ListLemmas.{flat_map-append}
-use Rattle.ether_format.proofs.RowLemmas.{end_elsewhere, end_here, end_no_headers, end_only, found_shown, frame_no_headers, frame_only, headers_only, next_values, no_values}
-use Rattle.ether_format.proofs.PlainLemmas.{IsPlain, plain_append, plain_escaped, plain_value, special_after}
+use Rattle.ether_format.proofs.RowLemmas.{all_shown, as_text, end_elsewhere, end_here, end_no_headers, end_shown_only, found_shown, frame_values, headers_values, next_values, no_values}
+use Rattle.ether_format.proofs.PlainLemmas.{IsPlain, plain_append, plain_escaped, plain_same, plain_value, special_after}
 
--- ---- the values of a packet are plain
+-- ---- the values of headers, and of how a walk ends, are plain
 
 abbrev AllPlain : List (Option Value) → Type 0
 AllPlain [] = ⊤
@@ -56,20 +56,9 @@ joined [] ws one two = two
 joined (Some v ∷ vs) ws one two = (one.0, joined vs ws one.1 two)
 joined (None ∷ vs) ws one two = joined vs ws one two
 
-some_time : (m : Option Moment) → IsPlain (if_some Time m)
-some_time None = tt
-some_time (Some m) = tt
-
-some_number : (n : Option ℕ) → IsPlain (if_some Number n)
-some_number None = tt
-some_number (Some n) = tt
-
 some_bytes : {X : Type 0} (bytes : X → List ℕ) (x : Option X) → IsPlain (if_some (λ k. Bytes (bytes k)) x)
 some_bytes bytes None = tt
 some_bytes bytes (Some x) = tt
-
-packet_plain : (number : ℕ) (p : PacketValue) (moment : Option Moment) → AllPlain (packet_values number p moment)
-packet_plain number p moment = (tt, (some_time moment, (tt, (tt, (tt, (some_number p.interface, tt))))))
 
 payload_plain : (t : PayloadType) → has_special (payload_word t) ≡ false
 payload_plain (payloads.Unmodified ether_type) = refl
@@ -243,20 +232,23 @@ shown_plain c (h ∷ hs) =
     (in_plain c (codes "headers") place_rows (told_place_values h) (place_plain (told_section h) (told_place h))))
     (shown_plain c hs)
 
-value_plain : (vs : List (Option Value)) (i : ℕ) → AllPlain vs → ArePlain (if_any (value_at vs i))
-value_plain [] zero all = tt
-value_plain [] (suc i) all = tt
-value_plain (Some v ∷ vs) zero all = (all.0, tt)
-value_plain (None ∷ vs) zero all = tt
-value_plain (Some v ∷ vs) (suc i) all = value_plain vs i all.1
-value_plain (None ∷ vs) (suc i) all = value_plain vs i all
-
 -- ---- the text of a column
 
--- it is enclosed if it has several values, and then it is the same
-pub record IsField (text : List ℕ) (several : Bool) : Type 0 where
+-- it is enclosed if it has several values, and then it is the same; and it is that of a row
+pub record IsField (text csv : List ℕ) (several : Bool) : Type 0 where
   pub marked : has_special text ≡ several
   pub same : escaped text ≡ text
+  pub is_csv : text ≡ csv
+
+-- plain values one after the other
+csv_later : (vs : List Value) → ArePlain vs
+    → flat_map (λ w. codes "," ++ column_value w) vs ≡ flat_map (λ w. codes "," ++ csv_value w) vs
+csv_later [] plain = refl
+csv_later (v ∷ vs) plain = λ i. (codes "," ++ sym (plain_same v plain.0) i) ++ csv_later vs plain.1 i
+
+csv_same : (vs : List Value) → ArePlain vs → join_by column_value (codes ",") vs ≡ join_by csv_value (codes ",") vs
+csv_same [] plain = refl
+csv_same (v ∷ vs) plain = λ i. sym (plain_same v plain.0) i ++ csv_later vs plain.1 i
 
 special_on : (vs : List Value) → ArePlain vs → has_special (column_on true vs) ≡ is_several (counted Zero vs)
 special_on [] plain = refl
@@ -301,20 +293,26 @@ module _ (number : ℕ) (p : PacketValue) (moment : Option Moment) (hs : List To
   abbrev Field : HeaderSection → ℕ → Type 0
   Field s i =
       IsField (column_text (c s i) (sections_told number p moment hs end))
+      (csv_text (c s i) (sections_told number p moment hs end))
       (is_several (counted Zero (shown_values (c s i) hs)))
 
   of_values : (s : HeaderSection) (i : ℕ) (vs : List Value) → ArePlain vs
-      → column_on true vs ≡ column_text (c s i) (sections_told number p moment hs end)
+      → all_shown s i number p moment hs end ≡ vs
       → is_several (counted Zero vs) ≡ is_several (counted Zero (shown_values (c s i) hs)) → Field s i
-  of_values s i vs plain is count = record {
-    marked = ap has_special (sym is) ∙ special_on vs plain ∙ count;
-    same = ap escaped (sym is) ∙ escaped_on true vs plain ∙ is;
-  }
+  of_values s i vs plain are count =
+      let is = as_text s i number p moment hs end vs are in
+      record {
+        marked = ap has_special (sym is) ∙ special_on vs plain ∙ count;
+        same = ap escaped (sym is) ∙ escaped_on true vs plain ∙ is;
+        is_csv =
+            ap (join_by column_value (codes ",")) are ∙ csv_same vs plain
+            ∙ ap (join_by csv_value (codes ",")) (sym are);
+      }
 
   of_headers : (s : HeaderSection) (i : ℕ) → (s ≡ parts.Frame → ⊥) → is_end_section s ≡ false → Field s i
   of_headers s i other none =
       of_values s i (shown_values (c s i) hs) (shown_plain (c s i) hs)
-      (headers_only s i other none number p moment hs end) refl
+      (headers_values s i other none number p moment hs end) refl
 
   end_count : (s : HeaderSection) (i : ℕ) → is_end_section s ≡ true
       → is_several (counted Zero (end_shown (c s i) end)) ≡ false
@@ -332,44 +330,50 @@ module _ (number : ℕ) (p : PacketValue) (moment : Option Moment) (hs : List To
       of_values s i (end_shown (c s i) end)
       (in_plain (c s i) (section_name (end_section end)) (section_rows (end_section end)) (end_values end)
       (end_plain end))
-      (end_only s i last number p moment hs end)
+      (end_shown_only s i last number p moment hs end)
       (end_count s i last
       ∙ sym (ap (λ (l : List Value). is_several (counted Zero l)) (end_no_headers s i last hs)))
 
-  of_frame : (i : ℕ) → Field parts.Frame i
-  of_frame i =
-      of_values parts.Frame i (if_any (value_at (packet_values number p moment) i))
-      (value_plain (packet_values number p moment) i (packet_plain number p moment))
-      (frame_only parts.Frame i refl number p moment hs end)
-      (one_at_most (value_at (packet_values number p moment) i)
-      ∙ sym (ap (λ (l : List Value). is_several (counted Zero l)) (frame_no_headers i hs)))
+  pub column_field : (s : HeaderSection) (i : ℕ) → s ≢ parts.Frame → Field s i
+  column_field parts.Frame i other = absurd (other refl)
+  column_field parts.Rest i other = of_end parts.Rest i refl
+  column_field parts.Fault i other = of_end parts.Fault i refl
+  column_field parts.Eth i other = of_headers parts.Eth i other refl
+  column_field parts.Sll i other = of_headers parts.Sll i other refl
+  column_field parts.Sll2 i other = of_headers parts.Sll2 i other refl
+  column_field parts.Vlan i other = of_headers parts.Vlan i other refl
+  column_field parts.Macsec i other = of_headers parts.Macsec i other refl
+  column_field parts.Arp i other = of_headers parts.Arp i other refl
+  column_field parts.Headers i other = of_headers parts.Headers i other refl
 
-  pub column_field : (s : HeaderSection) (i : ℕ) → Field s i
-  column_field parts.Frame i = of_frame i
-  column_field parts.Rest i = of_end parts.Rest i refl
-  column_field parts.Fault i = of_end parts.Fault i refl
-  column_field parts.Eth i = of_headers parts.Eth i (λ e. absurd cc) refl
-  column_field parts.Sll i = of_headers parts.Sll i (λ e. absurd cc) refl
-  column_field parts.Sll2 i = of_headers parts.Sll2 i (λ e. absurd cc) refl
-  column_field parts.Vlan i = of_headers parts.Vlan i (λ e. absurd cc) refl
-  column_field parts.Macsec i = of_headers parts.Macsec i (λ e. absurd cc) refl
-  column_field parts.Arp i = of_headers parts.Arp i (λ e. absurd cc) refl
-  column_field parts.Headers i = of_headers parts.Headers i (λ e. absurd cc) refl
+  -- the value of a column of the packet itself
+  pub frame_field : (i : ℕ) → csv_field (only_text (value_at (packet_columns number p moment) i))
+      ≡ csv_field (csv_text (c parts.Frame i) (sections_told number p moment hs end))
+  frame_field i =
+      let value = value_at (packet_columns number p moment) i in
+      ap csv_field
+      (only value ∙ ap (join_by csv_value (codes ",")) (sym (frame_values i number p moment hs end)))
+    where
+      only : (v : Option Value) → only_text v ≡ join_by csv_value (codes ",") (if_any v)
+      only None = refl
+      only (Some v) = sym (append-nil (csv_value v))
 
-field_text : (text : List ℕ) (several : Bool) → IsField text several
-    → quote_if several ++ (text ++ quote_if several) ≡ csv_field text
-field_text text true f =
+field_text : (text csv : List ℕ) (several : Bool) → IsField text csv several
+    → quote_if several ++ (text ++ quote_if several) ≡ csv_field csv
+field_text text csv true f =
     ap (λ (t : List ℕ). codes "\"" ++ (t ++ codes "\"")) (sym f.same)
     ∙ ap (λ (b : Bool). if b then codes "\"" ++ (escaped text ++ codes "\"") else text) (sym f.marked)
-field_text text false f =
+    ∙ ap csv_field f.is_csv
+field_text text csv false f =
     append-nil text
     ∙ ap (λ (b : Bool). if b then codes "\"" ++ (escaped text ++ codes "\"") else text) (sym f.marked)
+    ∙ ap csv_field f.is_csv
 
 -- .. by how many values it has
-pub enclosed_text : (text : List ℕ) (several count : Bool) → several ≡ count → IsField text count
-    → quote_if several ++ (text ++ quote_if several) ≡ csv_field text
-enclosed_text text several count is f =
-    ap (λ (b : Bool). quote_if b ++ (text ++ quote_if b)) is ∙ field_text text count f
+pub enclosed_text : (text csv : List ℕ) (several count : Bool) → several ≡ count → IsField text csv count
+    → quote_if several ++ (text ++ quote_if several) ≡ csv_field csv
+enclosed_text text csv several count is f =
+    ap (λ (b : Bool). quote_if b ++ (text ++ quote_if b)) is ∙ field_text text csv count f
 
 -- ---- how many values a column has
 

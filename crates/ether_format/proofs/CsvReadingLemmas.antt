@@ -3,8 +3,8 @@ use Rattle.std.proofs.Common.{◌≡◌, inl, inr, ℕ, List, [], ◌∷◌, ◌
 use Rattle.std.specs.Prelude.{◌||◌, nat_eq, codes, if◌then◌else◌, slice_index_or}
 use Rattle.std.specs.List.{flat_map}
 use Rattle.std.proofs.lemmas.Bool.{eqb-true}
-use Rattle.ether_format.specs.Columns.{column_name, column_text}
-use Rattle.ether_format.specs.Csv.{csv_field, csv_record, escaped, has_special, is_special}
+use Rattle.ether_format.specs.Columns.{column_name}
+use Rattle.ether_format.specs.Csv.{csv_field, csv_record, csv_text, escaped, has_special, is_special}
 use Rattle.ether_format.specs.CsvReading.{IsField, IsRecord, RecordsAreRead}
 use Rattle.ether_format.proofs.Names.{true_false}
 
@@ -185,7 +185,7 @@ module _ {X : Type 0} (text : X → List ℕ) where
 
 pub records_are_read : RecordsAreRead
 records_are_read = record {
-  row = λ column columns parts. record_is (λ c. column_text c parts) column columns;
+  row = λ column columns parts. record_is (λ c. csv_text c parts) column columns;
   heading = λ column columns. record_is column_name column columns;
   one = one_record;
 }

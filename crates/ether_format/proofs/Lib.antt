@@ -18,3 +18,4 @@ pub mod LineLemmas
 pub mod PlainLemmas
 pub mod CsvLemmas
 pub mod CsvReadingLemmas
+pub mod TextLemmas

@@ -5,7 +5,7 @@ use Rattle.std.specs.List.{IsAmong}
 use Rattle.std.specs.Str.{bytes_eq}
 use Rattle.std.proofs.lemmas.Slice.Eq.{bytes_eq-Decides}
 use Rattle.ether_fields.specs.Rows.{Row}
-use Rattle.ether_fields.specs.Fields.{field_view, member_names, section_name, section_rows}
+use Rattle.ether_fields.specs.Fields.{field_view, column_names, section_name, section_rows}
 use Rattle.ether_fields.specs.declared.field.Field.{Field}
 use Rattle.ether_fields.specs.declared.section.Section.{Section}
 use Rattle.ether_fields.specs.declared.section.Section.TheVariants as sections
@@ -130,14 +130,14 @@ named_at (r ∷ rs) (Some v ∷ vs) (suc i) apart le =
     ∙ named_at rs vs i (both _ _ apart).1 (omega (arith, le))
 named_at (r ∷ rs) (None ∷ vs) (suc i) apart le = named_at rs vs i (both _ _ apart).1 (omega (arith, le))
 
--- ---- the members of fields
+-- ---- the columns of fields
 
--- a field is the member of this name
-abbrev pub is_member_named : Field → List ℕ → Bool
-is_member_named f name = f.is_member && bytes_eq f.name.now name
+-- a field is the column of this name
+abbrev pub is_column_named : Field → List ℕ → Bool
+is_column_named f name = f.is_column && bytes_eq f.name.now name
 
 abbrev pub names_in : List Field → List (List ℕ)
-names_in fields = member_names (map field_view fields)
+names_in fields = column_names (map field_view fields)
 
 not_first : (name n : List ℕ) (ns : List (List ℕ)) → bytes_eq n name ≡ false → IsAmong (n ∷ ns) name
     → IsAmong ns name
@@ -146,21 +146,21 @@ not_first name n ns other (zero, (lt, same)) =
 not_first name n ns other (suc i, (lt, same)) = (i, (omega (arith, lt), same))
 
 -- .. among the later fields, if the first is not it
-pub among_later : (name : List ℕ) (f : Field) (fs : List Field) → is_member_named f name ≡ false
+pub among_later : (name : List ℕ) (f : Field) (fs : List Field) → is_column_named f name ≡ false
     → IsAmong (names_in (f ∷ fs)) name → IsAmong (names_in fs) name
-among_later name f fs other among = by f.is_member other among
+among_later name f fs other among = by f.is_column other among
   where
     by : (b : Bool) → (b && bytes_eq f.name.now name) ≡ false
         → IsAmong (if b then f.name.now ∷ names_in fs else names_in fs) name → IsAmong (names_in fs) name
     by true other among = not_first name f.name.now (names_in fs) other among
     by false other among = among
 
-pub among_first : (name : List ℕ) (f : Field) (fs : List Field) → is_member_named f name ≡ true
+pub among_first : (name : List ℕ) (f : Field) (fs : List Field) → is_column_named f name ≡ true
     → IsAmong (names_in (f ∷ fs)) name
-among_first name f fs is = by f.is_member (both _ _ is).0
+among_first name f fs is = by f.is_column (both _ _ is).0
   where
     same : name ≡ f.name.now
-    same = sym ((bytes_eq-Decides f.name.now name).0 (both f.is_member (bytes_eq f.name.now name) is).1)
+    same = sym ((bytes_eq-Decides f.name.now name).0 (both f.is_column (bytes_eq f.name.now name) is).1)
 
     by : (b : Bool) → b ≡ true → IsAmong (if b then f.name.now ∷ names_in fs else names_in fs) name
     by true holds = (0, (omega arith, same))
@@ -168,28 +168,28 @@ among_first name f fs is = by f.is_member (both _ _ is).0
 
 pub among_more : (name : List ℕ) (f : Field) (fs : List Field) → IsAmong (names_in fs) name
     → IsAmong (names_in (f ∷ fs)) name
-among_more name f fs among = by f.is_member
+among_more name f fs among = by f.is_column
   where
     by : (b : Bool) → IsAmong (if b then f.name.now ∷ names_in fs else names_in fs) name
     by true = (suc among.0, (let lt = among.1.0 in omega (arith, lt), among.1.1))
     by false = among
 
--- the field at an index is the member of this name
+-- the field at an index is the column of this name
 pub among_at : (name : List ℕ) (fs : List Field) (i : ℕ) (d : Field) → i < length fs
-    → is_member_named (slice_index_or fs i d) name ≡ true → IsAmong (names_in fs) name
+    → is_column_named (slice_index_or fs i d) name ≡ true → IsAmong (names_in fs) name
 among_at name [] i d lt is = absurd (omega (arith, lt))
 among_at name (f ∷ fs) zero d lt is = among_first name f fs is
 among_at name (f ∷ fs) (suc i) d lt is = among_more name f fs (among_at name fs i d (omega (arith, lt)) is)
 
 pub named_here : (name : List ℕ) (fs : List Field) (i : ℕ) (d : Field) → i < length fs
-    → is_member_named (slice_index_or fs i d) name ≡ true → slice_index_or (map (λ f. f.name.now) fs) i [] ≡ name
+    → is_column_named (slice_index_or fs i d) name ≡ true → slice_index_or (map (λ f. f.name.now) fs) i [] ≡ name
 named_here name [] i d lt is = absurd (omega (arith, lt))
 named_here name (f ∷ fs) zero d lt is = (bytes_eq-Decides f.name.now name).0 (both _ _ is).1
 named_here name (f ∷ fs) (suc i) d lt is = named_here name fs i d (omega (arith, lt)) is
 
 -- no field before this index is it
 pub not_before : (name : List ℕ) (fs : List Field) (i : ℕ) (d : Field) → i < length fs
-    → is_member_named (slice_index_or fs i d) name ≡ false → IsAmong (names_in (drop i fs)) name
+    → is_column_named (slice_index_or fs i d) name ≡ false → IsAmong (names_in (drop i fs)) name
     → IsAmong (names_in (drop (suc i) fs)) name
 not_before name [] i d lt other among = absurd (omega (arith, lt))
 not_before name (f ∷ fs) zero d lt other among = among_later name f fs other among

@@ -6,7 +6,7 @@ use Rattle.std.specs.List.{All, IsAmong, slice_split}
 use Rattle.std.proofs.lemmas.List.{length-map, map-append}
 use Rattle.std.proofs.lemmas.List.Elements.{All-nil, All-cons, All-append}
 use Rattle.std.proofs.lemmas.List.Splits.{slice_split_none}
-use Rattle.ether_fields.specs.Fields.{field_view, member_names, section_name, section_rows}
+use Rattle.ether_fields.specs.Fields.{field_view, column_names, section_name, section_rows}
 use Rattle.ether_fields.specs.declared.field.Field.{Field}
 use Rattle.ether_fields.specs.declared.section.Section.{Section}
 use Rattle.ether_fields.specs.declared.section.Section.TheVariants as sections
@@ -62,15 +62,15 @@ no_column_section name before after split none it is same =
 -- .. nor one whose back is not the name of a member
 pub no_column_member : (name before after : List ℕ) (s : Section) (fields : List Field) → SplitsAt 46 name before after
     → section_name s ≡ before → map field_view fields ≡ section_rows s
-    → ¬ (IsAmong (member_names (map field_view fields)) after)
+    → ¬ (IsAmong (column_names (map field_view fields)) after)
     → (it : ColumnValue) → IsColumn it → column_name it ≢ name
 no_column_member name before after s fields split is_name are none it is same =
     let one = one_split 46 refl name it.section it.member before after (splits_name it name is same) split in
     let here : is.of ≡ s = one_section is.of s (sym is.is_section ∙ one.0 ∙ sym is_name) in
     none
     (subst (λ (l : List (List ℕ)). IsAmong l after)
-    (ap (λ k. member_names (section_rows k)) here ∙ ap member_names (sym are))
-    (subst (IsAmong (member_names (section_rows is.of))) one.1 is.is_member))
+    (ap (λ k. column_names (section_rows k)) here ∙ ap column_names (sym are))
+    (subst (IsAmong (column_names (section_rows is.of))) one.1 is.is_field))
 
 -- ---- the words of a text
 

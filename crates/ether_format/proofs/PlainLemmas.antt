@@ -1,5 +1,5 @@
 -- Values have no byte for which CSV encloses a field.
-use Rattle.std.proofs.Common.{◌≡◌, ℕ, zero, suc, ◌+◌, ◌/◌, ◌%◌, ◌^◌, ◌≤◌, List, [], ◌∷◌, ◌++◌, map, Bool, true, false, refl, arith}
+use Rattle.std.proofs.Common.{◌≡◌, ℕ, zero, suc, ◌+◌, ◌/◌, ◌%◌, ◌^◌, ◌≤◌, List, [], ◌∷◌, ◌++◌, map, Bool, true, false, Some, None, refl, sym, ap, ◌∙◌, arith}
 use Rattle.std.specs.Prelude.{◌||◌, ⊤, nat_eq, nat_lt, ◌==◌, codes, if◌then◌else◌}
 use Rattle.std.specs.List.{flat_map}
 use Rattle.std.specs.Fmt.{decimal, digit_glyph, digits, digits_onto}
@@ -7,10 +7,13 @@ use Rattle.std.proofs.lemmas.Bool.{ne_eqb}
 use Rattle.etherparse.specs.NumberText.{hex_number}
 use Rattle.ether_base.specs.Texts.NumberText.{hex_byte}
 use Rattle.ether_output.specs.Decimals.{two_digits}
+use Rattle.ether_format.specs.declared.interval.Interval.{Interval}
+use Rattle.ether_format.specs.declared.interval.Interval.TheVariants as intervals
 use Rattle.ether_format.specs.declared.moment.Moment.{Moment}
-use Rattle.ether_format.specs.Csv.{escaped, has_special, is_special}
-use Rattle.ether_format.specs.Members.{Value, Nothing, Number, Protocol, Flag, Bytes, Dotted, Word, Time}
-use Rattle.ether_format.specs.Spelling.{colon_text, column_value, date_text, dated_text, dotted_text, has_date, moment_text, nine_digits, seconds_text}
+use Rattle.ether_format.specs.Counted.{text_in}
+use Rattle.ether_format.specs.Csv.{csv_field, csv_value, escaped, has_special, is_special}
+use Rattle.ether_format.specs.Members.{Value, Nothing, Number, Protocol, Flag, Bytes, Dotted, Word, Text, Time, Within}
+use Rattle.ether_format.specs.Spelling.{colon_text, column_value, date_text, dated_text, day_text, dotted_text, has_date, interval_text, moment_text, nine_digits, seconds_text, up_to}
 
 -- ---- texts without such bytes
 
@@ -179,11 +182,37 @@ moments m = by (has_date m)
     by true = with_decimals m
     by false = in_seconds m
 
+days : (m : Moment) → AllHigh (day_text m)
+unfolding day_text
+days m =
+    let day = codes "-" ++ two_digits m.day in
+    joined (decimal m.year) (codes "-" ++ (two_digits m.month ++ day)) (decimals m.year)
+    (with_pair 45 m.month day (omega arith) (with_pair 45 m.day [] (omega arith) tt))
+
+to_interval : (interval : Interval) (m : Moment) → AllHigh (up_to interval m)
+to_interval intervals.Minute m =
+    let minute = codes ":" ++ (two_digits m.minute ++ codes "Z") in
+    joined (day_text m) (codes "T" ++ (two_digits m.hour ++ minute)) (days m)
+    (with_pair 84 m.hour minute (omega arith) (with_pair 58 m.minute (codes "Z") (omega arith) (omega arith, tt)))
+to_interval intervals.Hour m =
+    joined (day_text m) (codes "T" ++ (two_digits m.hour ++ codes "Z")) (days m)
+    (with_pair 84 m.hour (codes "Z") (omega arith) (omega arith, tt))
+to_interval intervals.Day m = days m
+
+in_interval : (interval : Interval) (m : Moment) → AllHigh (interval_text interval m)
+unfolding interval_text
+in_interval interval m = by (has_date m)
+  where
+    by : (b : Bool) → AllHigh (if b then up_to interval m else [])
+    by true = to_interval interval m
+    by false = tt
+
 -- ---- values
 
--- a word without such bytes, or another value
+-- a word without such bytes, or another value that is no text
 abbrev pub IsPlain : Value → Type 0
 IsPlain (Word word) = has_special word ≡ false
+IsPlain (Text bytes) = ⊥
 IsPlain value = ⊤
 
 pub plain_value : (v : Value) → IsPlain v → has_special (column_value v) ≡ false
@@ -195,4 +224,51 @@ plain_value (Flag false) plain = refl
 plain_value (Bytes bytes) plain = all_plain (colon_text bytes) (colons bytes)
 plain_value (Dotted bytes) plain = all_plain (dotted_text bytes) (dots bytes)
 plain_value (Word word) plain = plain
+plain_value (Text bytes) plain = absurd plain
 plain_value (Time m) plain = all_plain (moment_text m) (moments m)
+plain_value (Within interval m) plain = all_plain (interval_text interval m) (in_interval interval m)
+
+-- .. which CSV has as a row
+pub plain_same : (v : Value) → IsPlain v → csv_value v ≡ column_value v
+plain_same Nothing plain = refl
+plain_same (Number n) plain = refl
+plain_same (Protocol n) plain = refl
+plain_same (Flag b) plain = refl
+plain_same (Bytes bytes) plain = refl
+plain_same (Dotted bytes) plain = refl
+plain_same (Word word) plain = refl
+plain_same (Text bytes) plain = absurd plain
+plain_same (Time m) plain = refl
+plain_same (Within interval m) plain = refl
+
+-- ---- a field of one value
+
+plain_field : (v : Value) → IsPlain v → column_value v ≡ csv_field (csv_value v)
+plain_field v plain =
+    ap (λ (b : Bool). if b then codes "\"" ++ (escaped (column_value v) ++ codes "\"") else column_value v)
+    (sym (plain_value v plain))
+    ∙ ap csv_field (sym (plain_same v plain))
+
+pub other_field : (v : Value) → text_in v ≡ None → column_value v ≡ csv_field (csv_value v)
+other_field (Word word) other = absurd cc
+other_field (Text bytes) other = absurd cc
+other_field Nothing other = plain_field Nothing tt
+other_field (Number n) other = plain_field (Number n) tt
+other_field (Protocol n) other = plain_field (Protocol n) tt
+other_field (Flag b) other = plain_field (Flag b) tt
+other_field (Bytes bytes) other = plain_field (Bytes bytes) tt
+other_field (Dotted bytes) other = plain_field (Dotted bytes) tt
+other_field (Time m) other = plain_field (Time m) tt
+other_field (Within interval m) other = plain_field (Within interval m) tt
+
+pub text_field : (v : Value) (text : List ℕ) → text_in v ≡ Some text → csv_field text ≡ csv_field (csv_value v)
+text_field (Word word) text is = let same : word ≡ text = cc in ap csv_field (sym same)
+text_field (Text bytes) text is = let same : bytes ≡ text = cc in ap csv_field (sym same)
+text_field Nothing text is = absurd cc
+text_field (Number n) text is = absurd cc
+text_field (Protocol n) text is = absurd cc
+text_field (Flag b) text is = absurd cc
+text_field (Bytes bytes) text is = absurd cc
+text_field (Dotted bytes) text is = absurd cc
+text_field (Time m) text is = absurd cc
+text_field (Within interval m) text is = absurd cc

@@ -20,13 +20,13 @@ use Rattle.ether_format.specs.declared.row.RowPacket.{RowPacket}
 use Rattle.ether_format.specs.Columns.{ColumnValue, Section, column_text, column_view, header_sections, section, sections as sections_told, values_in}
 use Rattle.ether_format.specs.Found.{found_told}
 use Rattle.ether_format.specs.Gathered.{OnTold, TakesLaterIf, TakesLaterValue, shown_values}
-use Rattle.ether_format.specs.Members.{Value, members, packet_members, packet_values}
+use Rattle.ether_format.specs.Members.{Value, members, packet_columns}
 use Rattle.ether_format.specs.Spelling.{column_value}
 use Rattle.ether_format.specs.Told.{Told, Walked, CookedV2, end_members, end_section, end_values, told_members, told_place_values, told_section}
 use Rattle.ether_format.specs.Values.{column_on, comma_if, end_shown, header_shown, is_end_section, if_any, still_first, value_at}
 use Rattle.ether_format.specs.Visits.{Visited}
 use Rattle.ether_fields.specs.Fields.{section_name}
-use Rattle.ether_fields.specs.Rows.{place_rows}
+use Rattle.ether_fields.specs.Rows.{frame_rows, place_rows}
 use Rattle.etherparse.specs.Header as headers
 use Rattle.ether_format.proofs.ColumnLemmas.{few_end_values, in_none, in_other, in_section}
 use Rattle.ether_format.proofs.ListLemmas.{flat_map-append}
@@ -77,7 +77,8 @@ in_sections c (h ∷ hs) =
         (append-nil (values_in c (section (codes "headers") (members place_rows (told_place_values k)))))
 
 abbrev frame_shown : ColumnValue → ℕ → PacketValue → Option Moment → List Value
-frame_shown c number p moment = values_in c (section (codes "frame") (packet_members number p moment))
+frame_shown c number p moment =
+    values_in c (section (codes "frame") (members frame_rows (packet_columns number p moment)))
 
 all_values : (c : ColumnValue) (number : ℕ) (p : PacketValue) (moment : Option Moment) (hs : List Told) (end : End)
     → flat_map (values_in c) (sections_told number p moment hs end)
@@ -117,52 +118,70 @@ module _ (s : HeaderSection) (i : ℕ) where
 
   no_frame : (number : ℕ) (p : PacketValue) (moment : Option Moment) → (s ≡ parts.Frame → ⊥)
       → frame_shown c number p moment ≡ []
-  no_frame number p moment other = in_other s parts.Frame i (packet_members number p moment) other
+  no_frame number p moment other = in_other s parts.Frame i (members frame_rows (packet_columns number p moment)) other
 
   no_end : (end : End) → (s ≡ end_section end → ⊥) → end_shown c end ≡ []
   no_end end other = in_other s (end_section end) i (end_members end) other
 
-  whole : (number : ℕ) (p : PacketValue) (moment : Option Moment) (hs : List Told) (end : End) (vs : List Value)
-      → frame_shown c number p moment ++ (shown_values c hs ++ end_shown c end) ≡ vs
+  abbrev pub all_shown : ℕ → PacketValue → Option Moment → List Told → End → List Value
+  all_shown number p moment hs end = flat_map (values_in c) (sections_told number p moment hs end)
+
+  pub as_text : (number : ℕ) (p : PacketValue) (moment : Option Moment) (hs : List Told) (end : End)
+      (vs : List Value)
+      → all_shown number p moment hs end ≡ vs
       → column_on true vs ≡ column_text c (sections_told number p moment hs end)
-  whole number p moment hs end vs are =
-      joined vs ∙ ap (join_by column_value (codes ",")) (sym (all_values c number p moment hs end ∙ are))
+  as_text number p moment hs end vs are = joined vs ∙ ap (join_by column_value (codes ",")) (sym are)
 
 -- a column of the packet itself
-pub frame_only : (s : HeaderSection) (i : ℕ) → s ≡ parts.Frame → (number : ℕ) (p : PacketValue) (moment : Option Moment)
-    (hs : List Told) (end : End)
-    → column_on true (if_any (value_at (packet_values number p moment) i))
-    ≡ column_text (column_view (record { section = s; index = i })) (sections_told number p moment hs end)
-frame_only s i same number p moment hs end =
+pub frame_values : (i : ℕ) (number : ℕ) (p : PacketValue) (moment : Option Moment) (hs : List Told)
+    (end : End)
+    → all_shown parts.Frame i number p moment hs end ≡ if_any (value_at (packet_columns number p moment) i)
+frame_values i number p moment hs end =
     let f = parts.Frame in
-    let vs = if_any (value_at (packet_values number p moment) i) in
-    whole f i number p moment hs end vs
-    ((λ k. in_section f i (packet_values number p moment) (omega arith) k
+    let vs = if_any (value_at (packet_columns number p moment) i) in
+    all_values (c f i) number p moment hs end
+    ∙ (λ k. in_section f i (packet_columns number p moment) (omega arith) k
     ++ (no_headers f i hs refl (λ e. absurd cc) k ++ no_end f i end (not_frame end) k))
-    ∙ append-nil vs)
-    ∙ ap (λ (k : HeaderSection).
-    column_text (column_view (record { section = k; index = i })) (sections_told number p moment hs end))
-    (sym same)
+    ∙ append-nil vs
   where
     not_frame : (end : End) → parts.Frame ≡ end_section end → ⊥
     not_frame (ends.Rest start finish kind) same = absurd cc
     not_frame (ends.Skipped len) same = absurd cc
     not_frame (ends.Fault start closed cause) same = absurd cc
 
--- a column of headers
-pub headers_only : (s : HeaderSection) (i : ℕ) → (s ≡ parts.Frame → ⊥) → is_end_section s ≡ false
-    → (number : ℕ) (p : PacketValue) (moment : Option Moment) (hs : List Told) (end : End)
-    → column_on true (shown_values (column_view (record { section = s; index = i })) hs)
+pub frame_only : (s : HeaderSection) (i : ℕ) → s ≡ parts.Frame → (number : ℕ) (p : PacketValue)
+    (moment : Option Moment) (hs : List Told) (end : End)
+    → column_on true (if_any (value_at (packet_columns number p moment) i))
     ≡ column_text (column_view (record { section = s; index = i })) (sections_told number p moment hs end)
-headers_only s i frame last number p moment hs end =
+frame_only s i same number p moment hs end =
+    as_text parts.Frame i number p moment hs end (if_any (value_at (packet_columns number p moment) i))
+    (frame_values i number p moment hs end)
+    ∙ ap (λ (k : HeaderSection).
+    column_text (column_view (record { section = k; index = i })) (sections_told number p moment hs end))
+    (sym same)
+
+-- a column of headers
+pub headers_values : (s : HeaderSection) (i : ℕ) → (s ≡ parts.Frame → ⊥) → is_end_section s ≡ false
+    → (number : ℕ) (p : PacketValue) (moment : Option Moment) (hs : List Told) (end : End)
+    → all_shown s i number p moment hs end ≡ shown_values (column_view (record { section = s; index = i })) hs
+headers_values s i frame last number p moment hs end =
     let vs = shown_values (column_view (record { section = s; index = i })) hs in
-    whole s i number p moment hs end vs
-    ((λ k. no_frame s i number p moment frame k ++ (vs ++ no_end s i end (not_end end) k)) ∙ append-nil vs)
+    all_values (c s i) number p moment hs end
+    ∙ (λ k. no_frame s i number p moment frame k ++ (vs ++ no_end s i end (not_end end) k))
+    ∙ append-nil vs
   where
     not_end : (end : End) → s ≡ end_section end → ⊥
     not_end (ends.Rest start finish kind) same = true_false (sym (ap is_end_section same) ∙ last)
     not_end (ends.Skipped len) same = true_false (sym (ap is_end_section same) ∙ last)
     not_end (ends.Fault start closed cause) same = true_false (sym (ap is_end_section same) ∙ last)
+
+pub headers_only : (s : HeaderSection) (i : ℕ) → (s ≡ parts.Frame → ⊥) → is_end_section s ≡ false
+    → (number : ℕ) (p : PacketValue) (moment : Option Moment) (hs : List Told) (end : End)
+    → column_on true (shown_values (column_view (record { section = s; index = i })) hs)
+    ≡ column_text (column_view (record { section = s; index = i })) (sections_told number p moment hs end)
+headers_only s i frame last number p moment hs end =
+    as_text s i number p moment hs end (shown_values (column_view (record { section = s; index = i })) hs)
+    (headers_values s i frame last number p moment hs end)
 
 -- a column of how the walk ends
 end_facts : (s : HeaderSection) → is_end_section s ≡ true
@@ -178,15 +197,22 @@ end_facts parts.Macsec last = absurd cc
 end_facts parts.Arp last = absurd cc
 end_facts parts.Headers last = absurd cc
 
+pub end_shown_only : (s : HeaderSection) (i : ℕ) → is_end_section s ≡ true → (number : ℕ) (p : PacketValue)
+    (moment : Option Moment) (hs : List Told) (end : End)
+    → all_shown s i number p moment hs end ≡ end_shown (column_view (record { section = s; index = i })) end
+end_shown_only s i last number p moment hs end =
+    let facts = end_facts s last in
+    let vs = end_shown (column_view (record { section = s; index = i })) end in
+    all_values (c s i) number p moment hs end
+    ∙ (λ k. no_frame s i number p moment facts.1.0 k ++ (no_headers s i hs facts.0 facts.1.1 k ++ vs))
+
 pub end_only : (s : HeaderSection) (i : ℕ) → is_end_section s ≡ true → (number : ℕ) (p : PacketValue)
     (moment : Option Moment) (hs : List Told) (end : End)
     → column_on true (end_shown (column_view (record { section = s; index = i })) end)
     ≡ column_text (column_view (record { section = s; index = i })) (sections_told number p moment hs end)
 end_only s i last number p moment hs end =
-    let facts = end_facts s last in
-    let vs = end_shown (column_view (record { section = s; index = i })) end in
-    whole s i number p moment hs end vs
-    (λ k. no_frame s i number p moment facts.1.0 k ++ (no_headers s i hs facts.0 facts.1.1 k ++ vs))
+    as_text s i number p moment hs end (end_shown (column_view (record { section = s; index = i })) end)
+    (end_shown_only s i last number p moment hs end)
 
 -- columns that have no values in headers
 pub frame_no_headers : (i : ℕ) (hs : List Told)
@@ -332,9 +358,9 @@ module _ {W : Type 0} (contents : W → Option (List ℕ)) (can_fail : Type 0) (
 
 -- ---- a row: columns with a separator between two, and what ends the row; each is spelled as a field
 
-module _ (separator finish : List ℕ) (field : List ℕ → List ℕ) where
+module _ (separator finish : List ℕ) (field : List Section → ColumnValue → List ℕ) where
   abbrev pub text_of : List Section → ColumnValue → List ℕ
-  text_of parts c = field (column_text c parts)
+  text_of parts c = field parts c
 
   abbrev pub row_of : List ColumnValue → List Section → List ℕ
   row_of columns parts = join_by (text_of parts) separator columns ++ finish
@@ -356,8 +382,8 @@ module _ (separator finish : List ℕ) (field : List ℕ → List ℕ) where
       (flat_map-map (λ c. separator ++ text_of parts c) column_view list))
       ∙ ap (λ (l : List ColumnValue). row_of l parts) (sym are)
 
-module _ {W : Type 0} (separator finish : List ℕ) (field : List ℕ → List ℕ) (contents : W → Option (List ℕ))
-    (can_fail : Type 0) (columns : List ColumnValue) (row : RowPacket) where
+module _ {W : Type 0} (separator finish : List ℕ) (field : List Section → ColumnValue → List ℕ)
+    (contents : W → Option (List ℕ)) (can_fail : Type 0) (columns : List ColumnValue) (row : RowPacket) where
   abbrev text : List Section → ColumnValue → List ℕ
   text parts c = text_of separator finish field parts c
 

@@ -4,13 +4,13 @@ use Rattle.std.specs.List.{All, IsAmong, flat_map, join_by, slice_split}
 use Rattle.std.specs.Str.{bytes_eq}
 use Rattle.ether_pcap.specs.Capture.{PacketValue}
 use Rattle.ether_format.specs.declared.moment.Moment.{Moment}
-use Rattle.ether_fields.specs.Rows.{Row, place_rows}
-use Rattle.ether_fields.specs.Fields.{member_names, section_name, section_rows}
+use Rattle.ether_fields.specs.Rows.{Row, frame_rows, place_rows}
+use Rattle.ether_fields.specs.Fields.{column_names, section_name, section_rows}
 use Rattle.ether_fields.specs.declared.section.Section.{Section as DeclaredSection}
 use Rattle.ether_format.specs.declared.end.End.{End}
 use Rattle.ether_format.specs.declared.column.Column.{Column as DeclaredColumn}
 use Rattle.ether_format.specs.declared.columns.Columns.{Columns as DeclaredColumns}
-use Rattle.ether_format.specs.Members.{Member, Value, members, packet_members}
+use Rattle.ether_format.specs.Members.{Member, Value, members, packet_columns}
 use Rattle.ether_format.specs.Told.{Told, end_members, end_section, told_members, told_place_values, told_section}
 use Rattle.ether_format.specs.Spelling.{column_value}
 
@@ -32,12 +32,12 @@ header_sections h =
 -- the packet, its headers, and how the walk through them ends
 abbrev pub sections : ℕ → PacketValue → Option Moment → List Told → End → List Section
 sections number p moment headers end =
-    section (codes "frame") (packet_members number p moment)
+    section (codes "frame") (members frame_rows (packet_columns number p moment))
     ∷ (flat_map header_sections headers ++ (section (section_name (end_section end)) (end_members end) ∷ []))
 
 -- ---- a column
 
--- the name of a section, and that of a member
+-- the name of a section, and that of a field
 pub record ColumnValue : Type 0 where
   pub section : List ℕ
   pub member : List ℕ
@@ -70,7 +70,7 @@ heading_text columns = join_by column_name (codes "\t") columns ++ codes "\n"
 pub record IsColumn (c : ColumnValue) : Type 0 where
   pub of : DeclaredSection
   pub is_section : c.section ≡ section_name of
-  pub is_member : IsAmong (member_names (section_rows of)) c.member
+  pub is_field : IsAmong (column_names (section_rows of)) c.member
 
 -- a text names these columns, at most 32, with a comma (44) between two
 pub record AreColumns (text : List ℕ) (columns : List ColumnValue) : Type 0 where

@@ -1,5 +1,5 @@
 -- Whether a column has several values in a packet: for the contracts of private functions.
-use Rattle.std.specs.Prelude.{◌≡◌, ℕ, codes, List, [], ◌∷◌, Bool, true, false, Option}
+use Rattle.std.specs.Prelude.{◌≡◌, ℕ, codes, List, [], ◌∷◌, Bool, true, false, Option, Some, None}
 use Rattle.ether_output.specs.OutputBuffer.{Takes}
 use Rattle.ether_output.specs.declared.output_buffer.OutputBuffer.{OutputBuffer}
 use Rattle.ether_format.specs.declared.column.Column.{Column as DeclaredColumn}
@@ -7,10 +7,10 @@ use Rattle.ether_format.specs.declared.row.RowPacket.{RowPacket}
 use Rattle.ether_format.specs.declared.csv.Count.{Count}
 use Rattle.ether_format.specs.declared.csv.Count.TheVariants.{Zero, One, Several}
 use Rattle.ether_format.specs.declared.csv.ValueCounter.{ValueCounter}
-use Rattle.ether_format.specs.Columns.{ColumnValue, column_text, column_view, sections as sections_told}
-use Rattle.ether_format.specs.Csv.{csv_field, csv_row}
+use Rattle.ether_format.specs.Columns.{ColumnValue, column_view, sections as sections_told}
+use Rattle.ether_format.specs.Csv.{csv_field, csv_row, csv_text, csv_value}
 use Rattle.ether_format.specs.Gathered.{OnTold, shown_values}
-use Rattle.ether_format.specs.Members.{Value}
+use Rattle.ether_format.specs.Members.{Text, Value, Word}
 use Rattle.ether_format.specs.Told.{Told}
 use Rattle.ether_format.specs.Values.{header_shown}
 
@@ -38,12 +38,23 @@ abbrev pub TellsSeveral : DeclaredColumn → RowPacket → (several : Bool) → 
 TellsSeveral c row several =
     OnTold row (λ number p moment told end. several ≡ is_several (counted Zero (shown_values (column_view c) told)))
 
+-- the bytes of a text or a word
+abbrev pub text_in : Value → Option (List ℕ)
+text_in (Text bytes) = Some bytes
+text_in (Word word) = Some word
+text_in value = None
+
+-- the text of a value, if there is one
+abbrev pub only_text : Option Value → List ℕ
+only_text None = []
+only_text (Some value) = csv_value value
+
 abbrev pub TakesField : {W : Type 0} → (contents : W → Option (List ℕ)) → (can_fail : Type 0) → DeclaredColumn
     → RowPacket → (old new : OutputBuffer W) → Type 0
 TakesField contents can_fail c row old new =
     OnTold row
     (λ number p moment told end.
-    Takes contents can_fail old (csv_field (column_text (column_view c) (sections_told number p moment told end))) new)
+    Takes contents can_fail old (csv_field (csv_text (column_view c) (sections_told number p moment told end))) new)
 
 abbrev pub TakesRecord : {W : Type 0} → (contents : W → Option (List ℕ)) → (can_fail : Type 0) → List ColumnValue
     → RowPacket → (old new : OutputBuffer W) → Type 0

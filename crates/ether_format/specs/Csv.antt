@@ -1,7 +1,9 @@
 -- A packet as a record of CSV (RFC 4180, 2).
 use Rattle.std.specs.Prelude.{ℕ, nat_eq, ◌||◌, List, [], ◌∷◌, ◌++◌, codes, Bool, false, if◌then◌else◌}
 use Rattle.std.specs.List.{flat_map, join_by}
-use Rattle.ether_format.specs.Columns.{ColumnValue, Section, column_name, column_text}
+use Rattle.ether_format.specs.Columns.{ColumnValue, Section, column_name, values_in}
+use Rattle.ether_format.specs.Members.{Value, Text}
+use Rattle.ether_format.specs.Spelling.{column_value}
 
 -- a double quote (34), a comma (44), CR (13) or LF (10)
 abbrev pub is_special : ℕ → Bool
@@ -23,9 +25,18 @@ csv_field text = if has_special text then codes "\"" ++ (escaped text ++ codes "
 abbrev pub csv_record : {X : Type 0} → (text : X → List ℕ) → List X → List ℕ
 csv_record text columns = join_by (λ c. csv_field (text c)) (codes ",") columns ++ (13 ∷ 10 ∷ [])
 
+-- a text as its own bytes, another value as in a row
+abbrev pub csv_value : Value → List ℕ
+csv_value (Text bytes) = bytes
+csv_value value = column_value value
+
+-- the values of a column, with a comma between two
+abbrev pub csv_text : ColumnValue → List Section → List ℕ
+csv_text c parts = join_by csv_value (codes ",") (flat_map (values_in c) parts)
+
 -- the columns of a packet
 abbrev pub csv_row : List ColumnValue → List Section → List ℕ
-csv_row columns parts = csv_record (λ c. column_text c parts) columns
+csv_row columns parts = csv_record (λ c. csv_text c parts) columns
 
 -- the line of their names (rule 3)
 abbrev pub csv_heading : List ColumnValue → List ℕ

@@ -3,11 +3,12 @@ use Rattle.std.specs.Prelude.{◌≡◌, ℕ, List, Bool, Option, map}
 use Rattle.ether_pcap.specs.Capture.{PacketValue, TimeValue}
 use Rattle.ether_format.specs.declared.format.Format.{Format}
 use Rattle.ether_format.specs.declared.moment.Moment.{Moment}
-use Rattle.ether_fields.specs.Fields.{member_names, section_rows}
+use Rattle.ether_fields.specs.Fields.{column_names, member_names, section_rows}
+use Rattle.ether_fields.specs.Rows.{frame_rows}
 use Rattle.ether_fields.specs.declared.section.Section.TheVariants.{Frame}
 use Rattle.ether_format.specs.declared.end.End.{End}
 use Rattle.ether_format.specs.Calendar.{IsMoment}
-use Rattle.ether_format.specs.Members.{packet_members}
+use Rattle.ether_format.specs.Members.{members, packet_columns, packet_members}
 use Rattle.ether_format.specs.Told.{Told, end_members, end_section, told_members, told_section}
 use Rattle.ether_format.specs.Texts.{HasText}
 
@@ -19,9 +20,15 @@ pub record TextsAreOne : Type 0 where
       → HasText format limit number p text accepted → HasText format limit number p other also → (text ≡ other)
       × (accepted ≡ also)
 
--- The members of a packet, of a header and of the end of a walk have the names of the columns of their section.
+-- The members of a packet, of a header and of the end of a walk have the names of the members of their section; and so
+-- have the values of columns those of its columns, which headers and ends have no others of.
 pub record ColumnsAreMembers : Type 0 where
   pub packet : (number : ℕ) (p : PacketValue) (moment : Option Moment)
       → map (λ m. m.name) (packet_members number p moment) ≡ member_names (section_rows Frame)
+  pub packet_column : (number : ℕ) (p : PacketValue) (moment : Option Moment)
+      → map (λ m. m.name) (members frame_rows (packet_columns number p moment)) ≡ column_names (section_rows Frame)
   pub header : (h : Told) → map (λ m. m.name) (told_members h) ≡ member_names (section_rows (told_section h))
   pub end : (end : End) → map (λ m. m.name) (end_members end) ≡ member_names (section_rows (end_section end))
+  pub header_column : (h : Told)
+      → map (λ m. m.name) (told_members h) ≡ column_names (section_rows (told_section h))
+  pub end_column : (end : End) → map (λ m. m.name) (end_members end) ≡ column_names (section_rows (end_section end))

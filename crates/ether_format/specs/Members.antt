@@ -1,5 +1,5 @@
 -- What a header says: its members, each with a name and a value. Lines of JSON and columns are spelled from them.
-use Rattle.std.specs.Prelude.{ℕ, ◌&&◌, nat_eq, List, [], ◌∷◌, length, take, codes, Bool, Option, Some, None, if◌then◌else◌}
+use Rattle.std.specs.Prelude.{ℕ, ◌&&◌, nat_eq, List, [], ◌∷◌, ◌++◌, length, take, codes, Bool, Option, Some, None, if◌then◌else◌}
 use Rattle.ether_fields.specs.Rows.{Row, frame_rows}
 use Rattle.etherparse.specs.Bytes.{spelled}
 use Rattle.etherparse.specs.Ethernet2.{Ethernet2Value}
@@ -9,8 +9,10 @@ use Rattle.etherparse.specs.Macsec.{SecTagValue, PayloadType, encrypted_of, chan
 use Rattle.etherparse.specs.Macsec as payloads
 use Rattle.etherparse.specs.Arp.{ArpValue}
 use Rattle.ether_sll2.specs.LinuxSll2.{LinuxSll2Value}
-use Rattle.ether_pcap.specs.Capture.{PacketValue}
+use Rattle.ether_pcap.specs.Capture.{DirectionValue, Inbound, Outbound, PacketValue}
 use Rattle.ether_format.specs.declared.moment.Moment.{Moment}
+use Rattle.ether_format.specs.declared.interval.Interval.{Interval}
+use Rattle.ether_format.specs.declared.interval.Interval.TheVariants as intervals
 
 -- ---- values
 
@@ -25,7 +27,11 @@ pub data Value : Type 0 where
   -- the bytes of an address of IPv4
   Dotted : List ℕ → Value
   Word : List ℕ → Value
+  -- a text, which may hold any byte
+  Text : List ℕ → Value
   Time : Moment → Value
+  -- the minute, the hour or the day of a time
+  Within : Interval → Moment → Value
 
 pub record Member : Type 0 where
   pub name : List ℕ
@@ -111,11 +117,28 @@ abbrev pub rest_values : (start finish : ℕ) → (kind : List ℕ) → (announc
 rest_values start finish kind announced =
     Some (Number start) ∷ Some (Number finish) ∷ Some (Word kind) ∷ Some announced ∷ []
 
--- the packet itself: its number and its time, link type and lengths, and the number of its interface (pcapng, 4.3)
-abbrev pub packet_values : (number : ℕ) → PacketValue → Option Moment → List (Option Value)
-packet_values number p moment =
+abbrev pub direction_word : DirectionValue → List ℕ
+direction_word Inbound = codes "inbound"
+direction_word Outbound = codes "outbound"
+
+-- the packet itself: its number, time, link type and lengths; and its interface, its direction and a comment on it
+-- (pcapng, 4.3)
+abbrev pub own_packet_values : (number : ℕ) → PacketValue → Option Moment → List (Option Value)
+own_packet_values number p moment =
     Some (Number number) ∷ Some (if_some Time moment) ∷ Some (Number p.link_type)
-    ∷ Some (Number (length p.packet)) ∷ Some (Number p.original_len) ∷ Some (if_some Number p.interface) ∷ []
+    ∷ Some (Number (length p.packet)) ∷ Some (Number p.original_len) ∷ Some (if_some Number p.interface)
+    ∷ Some (if_some (λ d. Word (direction_word d)) p.direction) ∷ Some (if_some Text p.comment) ∷ []
+
+-- .. as an object has them
+abbrev pub packet_values : (number : ℕ) → PacketValue → Option Moment → List (Option Value)
+packet_values number p moment = own_packet_values number p moment ++ (None ∷ None ∷ None ∷ [])
 
 abbrev pub packet_members : (number : ℕ) → PacketValue → Option Moment → List Member
 packet_members number p moment = members frame_rows (packet_values number p moment)
+
+-- .. and as columns, with the minute, the hour and the day of its time
+abbrev pub packet_columns : (number : ℕ) → PacketValue → Option Moment → List (Option Value)
+packet_columns number p moment =
+    own_packet_values number p moment
+    ++ (Some (if_some (Within intervals.Minute) moment) ∷ Some (if_some (Within intervals.Hour) moment)
+    ∷ Some (if_some (Within intervals.Day) moment) ∷ [])

@@ -18,7 +18,7 @@ use Rattle.ether_format.specs.declared.value.Value.{Value as DeclaredValue}
 use Rattle.ether_format.specs.declared.value.Value.TheVariants as values
 use Rattle.ether_format.specs.declared.value.Member.{Member as DeclaredMember}
 use Rattle.ether_format.specs.Calendar.{AreMoments}
-use Rattle.ether_format.specs.Members.{Value, Nothing, Number, Protocol, Flag, Bytes, Dotted, Word, Time, if_some, ethernet2_values, vlan_values, macsec_values, arp_values, linux_sll_values, packet_values}
+use Rattle.ether_format.specs.Members.{Value, Nothing, Number, Protocol, Flag, Bytes, Dotted, Word, Text, Time, Within, if_some, ethernet2_values, vlan_values, macsec_values, arp_values, linux_sll_values, packet_columns, packet_values}
 use Rattle.ether_format.specs.Spelling.{column_value, json_value}
 use Rattle.ether_format.specs.Json.{json_front}
 use Rattle.ether_format.specs.Told.{Told, end_members, end_section, told_members, told_place_values, told_section}
@@ -41,7 +41,9 @@ value_view (values.Short bytes len) = Bytes (take len bytes)
 value_view (values.Bytes bytes) = Bytes bytes.now
 value_view (values.Dotted bytes) = Dotted bytes.now
 value_view (values.Word word) = Word word.now
+value_view (values.Text bytes) = Text bytes.now
 value_view (values.Time m) = Time m
+value_view (values.Within interval m) = Within interval m
 
 -- the value at an index, if there is one
 abbrev pub value_at : List (Option Value) → ℕ → Option Value
@@ -58,7 +60,7 @@ unit_values (units.Arp bytes) = arp_values (arp_of bytes)
 -- the value of a packet's field
 abbrev pub HasPacketValue : (number : ℕ) → PacketValue → (index : ℕ) → Option Value → Type 0
 HasPacketValue number p index value =
-    (moment : Option Moment) → AreMoments p.time moment → value ≡ value_at (packet_values number p moment) index
+    (moment : Option Moment) → AreMoments p.time moment → value ≡ value_at (packet_columns number p moment) index
 
 -- ---- in an object
 

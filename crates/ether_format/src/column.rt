@@ -3,7 +3,7 @@ ghost use Rattle.std.specs.Prelude.{◌≡◌, ◌≢◌, ◌&&◌, ◌<◌, [],
 ghost use Rattle.std.specs.Str.{bytes_eq};
 ghost use Rattle.std.specs.Option.{option_map};
 ghost use Rattle.std.specs.List.{IsAmong};
-ghost use Rattle.ether_fields.specs.Fields.{field_view, member_names};
+ghost use Rattle.ether_fields.specs.Fields.{field_view, column_names};
 ghost use Rattle.ether_output.specs.OutputBuffer.{Takes};
 ghost use Rattle.ether_format.specs.Columns.{ColumnValue, IsColumn, column_name, column_view};
 ghost use Rattle.ether_format.specs.Found.{found_told};
@@ -69,8 +69,8 @@ impl Column {
 /// The index of the member with this name among fields.
 fn index_of(fields: &[Field], name: &[u8]) -> Option<usize>
     ensures some { IfSome result (λ at. (slice_index_or (map (λ f. f.name.now) fields.now) at [] ≡ name.now)
-        × IsAmong (member_names (map field_view fields.now)) name.now × (at < length fields.now)) }
-    ensures none { IfNone result (¬ (IsAmong (member_names (map field_view fields.now)) name.now)) }
+        × IsAmong (column_names (map field_view fields.now)) name.now × (at < length fields.now)) }
+    ensures none { IfNone result (¬ (IsAmong (column_names (map field_view fields.now)) name.now)) }
 {
     for (index, field) in fields.iter().enumerate() {
         if is_named(field, name) {
@@ -82,7 +82,7 @@ fn index_of(fields: &[Field], name: &[u8]) -> Option<usize>
 
 /// Whether a field is the member with this name.
 fn is_named(field: &Field, name: &[u8]) -> bool
-    ensures { result ≡ (field.now.is_member && bytes_eq field.now.name.now name.now) }
+    ensures { result ≡ (field.now.is_column && bytes_eq field.now.name.now name.now) }
 {
-    field.is_member && field.name.as_bytes() == name
+    field.is_column && field.name.as_bytes() == name
 }

@@ -1,14 +1,16 @@
 //! Writes a packet as a record of CSV (RFC 4180).
-ghost use Rattle.std.specs.Prelude.{◌≡◌, map};
+ghost use Rattle.std.specs.Prelude.{◌≡◌, ◌≢◌, map};
 ghost use Rattle.std.specs.Option.{option_map};
 ghost use Rattle.ether_pcap.specs.CaptureViews.{captured_packet_view};
 ghost use Rattle.ether_output.specs.OutputBuffer.{Takes, TakesAnswer};
+ghost use Rattle.ether_fields.specs.declared.section.Section.TheVariants as sections;
 ghost use Rattle.ether_format.specs.declared.csv.Count.TheVariants as counts;
 ghost use Rattle.ether_format.specs.declared.format.Format.TheVariants as formats;
 ghost use Rattle.ether_format.specs.Columns.{column_view, columns_view};
-ghost use Rattle.ether_format.specs.Counted.{TakesField, TakesRecord, TellsSeveral, counted, is_several, quote_if};
+ghost use Rattle.ether_format.specs.Counted.{TakesField, TakesRecord, TellsSeveral, counted, is_several, only_text, quote_if, text_in};
 ghost use Rattle.ether_format.specs.Found.{found_told};
 ghost use Rattle.ether_format.specs.Gathered.{AreGathered, HasEnd, shown_values};
+ghost use Rattle.ether_format.specs.Csv.{csv_field, csv_value};
 ghost use Rattle.ether_format.specs.Texts.{HasText};
 ghost use Rattle.ether_format.specs.Values.{if_any, value_view};
 
@@ -18,8 +20,12 @@ use crate::end::End;
 use crate::found::Found;
 use crate::gathered::{Gatherer, Headers};
 use crate::row::{RowPacket, write_column};
+use crate::spelling::write_column_value;
+use crate::text::write_csv_text;
 use crate::value::Value;
+use crate::values::packet_value;
 use crate::visit::{Visitor, visit};
+use ether_fields::Section;
 use ether_output::{OutputBuffer, Sink};
 use ether_pcap::CapturedPacket;
 
@@ -80,8 +86,7 @@ fn write_record<W: Sink>(
     }
 }
 
-/// Writes a column. It is enclosed in double quotes if it has several values, since there is a comma between two. A
-/// value has none of the bytes that ask for double quotes.
+/// Writes a column.
 fn write_field<W: Sink>(
     column: Column,
     row: &RowPacket<'_>,
@@ -92,6 +97,59 @@ fn write_field<W: Sink>(
 )
     requires told { AreGathered row.now headers.now gatherer.now }
     requires end { HasEnd row.now end.now }
+    ensures { TakesField W.contents W.can_fail column row.now out.old out.new }
+{
+    if column.section == Section::Frame {
+        let index = usize::from(column.index);
+        write_only_field(packet_value(row.number, row.packet, index), out);
+    } else {
+        write_values_field(column, row, headers, gatherer, end, out);
+    }
+}
+
+/// Writes the only value of a column, if there is one.
+fn write_only_field<W: Sink>(value: Option<Value<'_>>, out: &mut OutputBuffer<'_, W>)
+    ensures { Takes W.contents W.can_fail out.old (csv_field (only_text (option_map value_view value.entry))) out.new }
+{
+    if let Some(value) = value {
+        write_value_field(&value, out);
+    }
+}
+
+/// Writes a value as a field. Only a text or a word can have a byte that asks for double quotes.
+fn write_value_field<W: Sink>(value: &Value<'_>, out: &mut OutputBuffer<'_, W>)
+    ensures { Takes W.contents W.can_fail out.old (csv_field (csv_value (value_view value.now))) out.new }
+{
+    match text_of(value) {
+        Some(text) => write_csv_text(text, out),
+        None => write_column_value(value, out),
+    }
+}
+
+/// The bytes of a text or a word.
+fn text_of<'a>(value: &Value<'a>) -> Option<&'a [u8]>
+    ensures { option_map (λ t. t.now) result ≡ text_in (value_view value.now) }
+{
+    match value {
+        Value::Text(text) => Some(text),
+        Value::Word(word) => Some(word.as_bytes()),
+        _ => None,
+    }
+}
+
+/// Writes a column of headers, or of how a walk ends. It is enclosed in double quotes if it has several values, since
+/// there is a comma between two. None of them has a byte that asks for double quotes.
+fn write_values_field<W: Sink>(
+    column: Column,
+    row: &RowPacket<'_>,
+    headers: &[Found<'_>],
+    gatherer: &Gatherer,
+    end: &End,
+    out: &mut OutputBuffer<'_, W>,
+)
+    requires told { AreGathered row.now headers.now gatherer.now }
+    requires end { HasEnd row.now end.now }
+    requires other { column.section ≢ sections.Frame }
     ensures { TakesField W.contents W.can_fail column row.now out.old out.new }
 {
     let is_enclosed = has_several(column, row, headers, gatherer);

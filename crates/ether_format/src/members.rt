@@ -49,7 +49,7 @@ fn member<'a>(field: &Field, value: Option<Value<'a>>) -> Member<'a>
 
 /// The members of a packet.
 #[inline(always)]
-pub(crate) fn packet<'a>(number: usize, packet: &CapturedPacket<'_>) -> [Member<'a>; 6]
+pub(crate) fn packet<'a>(number: usize, packet: &CapturedPacket<'a>) -> [Member<'a>; 8]
     ensures { HasPacketMembers number (captured_packet_view packet.now) (map member_view result) }
 {
     [
@@ -59,6 +59,8 @@ pub(crate) fn packet<'a>(number: usize, packet: &CapturedPacket<'_>) -> [Member<
         member(&rows::FRAME[3], packet_value(number, packet, 3)),
         member(&rows::FRAME[4], packet_value(number, packet, 4)),
         member(&rows::FRAME[5], packet_value(number, packet, 5)),
+        member(&rows::FRAME[6], packet_value(number, packet, 6)),
+        member(&rows::FRAME[7], packet_value(number, packet, 7)),
     ]
 }
 

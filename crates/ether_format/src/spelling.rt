@@ -5,10 +5,12 @@ ghost use Rattle.std.specs.List.{flat_map};
 ghost use Rattle.ether_base.specs.Texts.NumberText.{hex_byte};
 ghost use Rattle.ether_output.specs.OutputBuffer.{Takes};
 ghost use Rattle.ether_output.specs.Decimals.{two_digits};
-ghost use Rattle.ether_format.specs.Spelling.{colon_text, column_value, date_text, dated_text, dotted_text, flag_text, has_date, json_moment, json_value, moment_text, nine_digits, quoted, seconds_text};
+ghost use Rattle.ether_format.specs.Spelling.{colon_text, column_value, date_text, dated_text, day_text, dotted_text, flag_text, has_date, interval_text, json_moment, json_value, moment_text, nine_digits, quoted, seconds_text, up_to};
 ghost use Rattle.ether_format.specs.Values.{value_view};
 
 use crate::Moment;
+use crate::interval::Interval;
+use crate::text::{write_json_text, write_row_text};
 use crate::value::Value;
 use ether_output::{OutputBuffer, Sink, digit_pair, eight_digits, hex_type, write_decimal};
 use etherparse::EtherType;
@@ -30,7 +32,9 @@ pub(crate) fn write_json_value<W: Sink>(value: &Value<'_>, out: &mut OutputBuffe
         Value::Bytes(bytes) => write_quoted_bytes(bytes, out),
         Value::Dotted(bytes) => write_quoted_dotted(bytes, out),
         Value::Word(word) => write_quoted_word(word, out),
+        Value::Text(text) => write_json_text(text, out),
         Value::Time(moment) => write_json_moment(moment, out),
+        Value::Within(interval, moment) => write_quoted_interval(*interval, moment, out),
     }
 }
 
@@ -51,7 +55,9 @@ pub(crate) fn write_column_value<W: Sink>(value: &Value<'_>, out: &mut OutputBuf
         Value::Bytes(bytes) => write_colons(bytes, out),
         Value::Dotted(bytes) => write_dotted(bytes, out),
         Value::Word(word) => out.append(word.as_bytes()),
+        Value::Text(text) => write_row_text(text, out),
         Value::Time(moment) => write_moment(moment, out),
+        Value::Within(interval, moment) => write_interval(*interval, moment, out),
     }
 }
 
@@ -205,6 +211,55 @@ pub(crate) fn write_moment<W: Sink>(moment: &Moment, out: &mut OutputBuffer<'_, 
     } else {
         write_seconds(moment, out);
     }
+}
+
+/// Writes an interval of a moment between quotation marks.
+#[inline(never)]
+fn write_quoted_interval<W: Sink>(
+    interval: Interval,
+    moment: &Moment,
+    out: &mut OutputBuffer<'_, W>,
+)
+    ensures { Takes W.contents W.can_fail out.old (quoted (interval_text interval moment.now)) out.new }
+{
+    out.append(b"\"");
+    write_interval(interval, moment, out);
+    out.append(b"\"");
+}
+
+/// Writes the date of a moment up to the minute, the hour or the day. A moment without a date has none.
+#[inline(never)]
+fn write_interval<W: Sink>(interval: Interval, moment: &Moment, out: &mut OutputBuffer<'_, W>)
+    ensures { Takes W.contents W.can_fail out.old (interval_text interval moment.now) out.new }
+{
+    if has_date(moment) {
+        write_up_to(interval, moment, out);
+    }
+}
+
+/// Writes the date of a moment up to the minute, the hour or the day.
+fn write_up_to<W: Sink>(interval: Interval, moment: &Moment, out: &mut OutputBuffer<'_, W>)
+    ensures { Takes W.contents W.can_fail out.old (up_to interval moment.now) out.new }
+{
+    write_day(moment, out);
+    let h = two_digits(moment.hour);
+    let m = two_digits(moment.minute);
+    match interval {
+        Interval::Minute => out.append_array([b'T', h[0], h[1], b':', m[0], m[1], b'Z']),
+        Interval::Hour => out.append_array([b'T', h[0], h[1], b'Z']),
+        Interval::Day => {}
+    }
+}
+
+/// Writes the date of a moment.
+#[tactic(auto, unfolding(crate::specs::Spelling::day_text))]
+fn write_day<W: Sink>(moment: &Moment, out: &mut OutputBuffer<'_, W>)
+    ensures { Takes W.contents W.can_fail out.old (day_text moment.now) out.new }
+{
+    let m = two_digits(moment.month);
+    let d = two_digits(moment.day);
+    write_decimal(out, moment.year);
+    out.append_array([b'-', m[0], m[1], b'-', d[0], d[1]]);
 }
 
 /// Whether the year has at most four digits, as in RFC 3339.

@@ -10,20 +10,21 @@ ghost use Rattle.etherparse.specs.Vlan.{vlan_of};
 ghost use Rattle.ether_content.specs.ContentViews.{cooked_view};
 ghost use Rattle.ether_sll2.specs.LinuxSll2.{linux_sll2_of};
 ghost use Rattle.ether_fields.specs.Fields.{section_name};
-ghost use Rattle.ether_pcap.specs.CaptureViews.{captured_packet_view, timestamp_view};
+ghost use Rattle.ether_pcap.specs.CaptureViews.{captured_packet_view, direction_view, timestamp_view};
 ghost use Rattle.ether_format.specs.Calendar.{AreMoments};
 ghost use Rattle.ether_format.specs.Told.{place_values};
-ghost use Rattle.ether_format.specs.Members.{Bytes, Number, Time, arp_values, ethernet2_values, if_some, linux_sll2_values, linux_sll_values, macsec_values, payload_type_value, payload_word, protocol_address, vlan_values};
+ghost use Rattle.ether_format.specs.Members.{Bytes, Number, Text, Time, Within, Word, arp_values, direction_word, ethernet2_values, if_some, linux_sll2_values, linux_sll_values, macsec_values, payload_type_value, payload_word, protocol_address, vlan_values};
 ghost use Rattle.ether_format.specs.Values.{HasPacketValue, unit_values, value_at, value_view};
 
 use crate::Moment;
 use crate::calendar::moment_of;
+use crate::interval::Interval;
 use crate::place::Place;
 use crate::spelling::first_of;
 use crate::value::Value;
 use ether_content::CookedHeader;
 use ether_fields::Section;
-use ether_pcap::{CapturedPacket, Timestamp};
+use ether_pcap::{CapturedPacket, Direction, Timestamp};
 use ether_peel::PeelUnit;
 use ether_sll2::LinuxSll2Slice;
 use etherparse::{
@@ -35,10 +36,11 @@ use etherparse::{
 #[inline(always)]
 pub(crate) fn packet_value<'a>(
     number: usize,
-    packet: &CapturedPacket<'_>,
+    packet: &CapturedPacket<'a>,
     index: usize,
 ) -> Option<Value<'a>>
-    ensures { HasPacketValue number (captured_packet_view packet.now) index (option_map value_view result) }
+    ensures { HasPacketValue number (captured_packet_view packet.now) index
+        (option_map value_view result) }
 {
     match index {
         0 => Some(Value::Number(number as u64)),
@@ -47,6 +49,11 @@ pub(crate) fn packet_value<'a>(
         3 => Some(Value::Number(packet.packet.len() as u64)),
         4 => Some(Value::Number(u64::from(packet.original_len))),
         5 => Some(interface_value(packet.interface)),
+        6 => Some(direction_value(packet.direction)),
+        7 => Some(text_value(packet.comment)),
+        8 => Some(interval_value(Interval::Minute, moment_if(packet.time))),
+        9 => Some(interval_value(Interval::Hour, moment_if(packet.time))),
+        10 => Some(interval_value(Interval::Day, moment_if(packet.time))),
         _ => None,
     }
 }
@@ -58,6 +65,39 @@ fn interface_value<'a>(interface: Option<u32>) -> Value<'a>
 {
     match interface {
         Some(interface) => Value::Number(u64::from(interface)),
+        None => Value::Nothing,
+    }
+}
+
+/// The value of a direction.
+#[inline(always)]
+fn direction_value<'a>(direction: Option<Direction>) -> Value<'a>
+    ensures { value_view result ≡ if_some (λ d. Word (direction_word d)) (option_map direction_view direction) }
+{
+    match direction {
+        Some(Direction::Inbound) => Value::Word("inbound"),
+        Some(Direction::Outbound) => Value::Word("outbound"),
+        None => Value::Nothing,
+    }
+}
+
+/// The value of a text.
+#[inline(always)]
+fn text_value<'a>(text: Option<&'a [u8]>) -> Value<'a>
+    ensures { value_view result ≡ if_some Text (option_map (λ t. t.now) text.entry) }
+{
+    match text {
+        Some(text) => Value::Text(text),
+        None => Value::Nothing,
+    }
+}
+
+/// The value of an interval of a time.
+fn interval_value<'a>(interval: Interval, moment: Option<Moment>) -> Value<'a>
+    ensures { value_view result ≡ if_some (Within interval) moment }
+{
+    match moment {
+        Some(moment) => Value::Within(interval, moment),
         None => Value::Nothing,
     }
 }

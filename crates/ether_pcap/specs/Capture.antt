@@ -24,12 +24,19 @@ pub record TimeValue : Type 0 where
 abbrev pub time_of : (nanoseconds : ℕ) → TimeValue
 time_of n = record { seconds = n / 10 ^ 9; nanoseconds = n % 10 ^ 9 }
 
--- A captured packet: its time and the number of its interface, if the file gives them; its length before it was cut;
--- the link type, snap length and length of the frame check sequence that the file gives for it; and its captured
--- bytes.
+-- whether an interface received a packet or sent it
+pub data DirectionValue : Type 0 where
+  Inbound : DirectionValue
+  Outbound : DirectionValue
+
+-- A captured packet: its time, the number of its interface, its direction and a comment on it, if the file gives them;
+-- its length before it was cut; the link type, snap length and length of the frame check sequence that the file gives
+-- for it; and its captured bytes.
 pub record PacketValue : Type 0 where
   pub time : Option TimeValue
   pub interface : Option ℕ
+  pub direction : Option DirectionValue
+  pub comment : Option (List ℕ)
   pub original_len : ℕ
   pub link_type : ℕ
   pub snap_len : ℕ
@@ -40,6 +47,8 @@ abbrev pub packet_of_record : FileHeaderValue → RecordValue → PacketValue
 packet_of_record h r = record {
   time = Some (time_of (nanoseconds_of h.resolution r.seconds r.fraction));
   interface = None;
+  direction = None;
+  comment = None;
   original_len = r.original_len;
   link_type = h.link_type;
   snap_len = h.snap_len;
@@ -130,11 +139,19 @@ abbrev pub fcs_of : (of_packet of_interface : Option ℕ) → Option ℕ
 fcs_of None n = n
 fcs_of (Some n) m = Some n
 
--- what a packet's block, its interface and its option epb_flags or pack_flags (2) say of it
+-- the direction in the flags of a packet (4.3.1): bits 0 and 1, where 1 is inbound and 2 is outbound
+abbrev pub direction_in_flags : Option ℕ → Option DirectionValue
+direction_in_flags None = None
+direction_in_flags (Some flags) =
+    let n = flags % 2 ^ 2 in if nat_eq n 1 then Some Inbound else (if nat_eq n 2 then Some Outbound else None)
+
+-- what a packet's block, its interface, its option epb_flags or pack_flags (2) and its first comment (1) say of it
 abbrev pub packet_on : Order → CaptureInterfaceValue → EnhancedPacketValue → List OptionValue → PacketValue
 packet_on order i p options = record {
   time = time_on i p.time;
   interface = Some p.interface;
+  direction = direction_in_flags (number_of order 4 (value_of 2 options));
+  comment = value_of 1 options;
   original_len = p.original_len;
   link_type = i.link_type;
   snap_len = i.snap_len;
@@ -148,6 +165,8 @@ simple_packet_on i p =
     record {
       time = None;
       interface = Some 0;
+      direction = None;
+      comment = None;
       original_len = p.original_len;
       link_type = i.link_type;
       snap_len = i.snap_len;

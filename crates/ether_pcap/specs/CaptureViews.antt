@@ -1,10 +1,12 @@
 -- What is read of a capture file of either format, and why a unit is refused, as values of the formats.
 use Rattle.std.specs.Prelude.{ℕ, List, map}
 use Rattle.std.specs.Option.{option_map}
-use Rattle.ether_pcap.specs.Capture.{TimeValue, PacketValue, CaptureInterfaceValue, CaptureExpectation, Beginning, Records, Blocks, CaptureRefusal, File, Record, Section, Block, Body, NoInterface, TooManyInterfaces}
+use Rattle.ether_pcap.specs.Capture.{TimeValue, DirectionValue, Inbound, Outbound, PacketValue, CaptureInterfaceValue, CaptureExpectation, Beginning, Records, Blocks, CaptureRefusal, File, Record, Section, Block, Body, NoInterface, TooManyInterfaces}
 use Rattle.ether_pcap.specs.Views.{order_of, file_header_view, file_refusal_view, record_refusal_view}
 use Rattle.ether_pcap.specs.PcapngViews.{section_refusal_view, block_refusal_view, body_refusal_view}
 use Rattle.ether_pcap.specs.declared.capture.timestamp.Timestamp.{Timestamp}
+use Rattle.ether_pcap.specs.declared.capture.direction.Direction.{Direction}
+use Rattle.ether_pcap.specs.declared.capture.direction.Direction.TheVariants as directions
 use Rattle.ether_pcap.specs.declared.capture.captured_packet.CapturedPacket.{CapturedPacket}
 use Rattle.ether_pcap.specs.declared.capture.capture_interface.CaptureInterface.{CaptureInterface}
 use Rattle.ether_pcap.specs.declared.capture.reader_state.ReaderState.{ReaderState}
@@ -15,10 +17,16 @@ use Rattle.ether_pcap.specs.declared.capture.capture_error.CaptureError.TheVaria
 abbrev pub timestamp_view : Timestamp → TimeValue
 timestamp_view t = record { seconds = t.seconds; nanoseconds = t.nanoseconds }
 
+abbrev pub direction_view : Direction → DirectionValue
+direction_view directions.Inbound = Inbound
+direction_view directions.Outbound = Outbound
+
 abbrev pub captured_packet_view : CapturedPacket → PacketValue
 captured_packet_view p = record {
   time = option_map timestamp_view p.time;
   interface = p.interface;
+  direction = option_map direction_view p.direction;
+  comment = option_map (λ text. text.now) p.comment;
   original_len = p.original_len;
   link_type = p.link_type.0;
   snap_len = p.snap_len;

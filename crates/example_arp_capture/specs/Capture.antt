@@ -16,6 +16,8 @@ packet_at seconds frame =
     record {
       time = Some (time_of (seconds * 10 ^ 9));
       interface = None;
+      direction = None;
+      comment = None;
       original_len = 46;
       link_type = 1;
       snap_len = 262144;

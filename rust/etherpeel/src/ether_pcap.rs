@@ -12,8 +12,8 @@ mod word_bytes;
 pub use byte_order::ByteOrder;
 pub use capture::{
     CaptureError, CaptureFault, CaptureInterface, CapturePackets, CaptureReader, CaptureUnit,
-    CapturedPacket, CopiedUnit, CopyMode, DescribedInterfaces, EditedUnit, InterfaceSlice,
-    InterfaceTable, ReadUnit, ReaderState, Timestamp, UnitContent,
+    CapturedPacket, CopiedUnit, CopyMode, DescribedInterfaces, Direction, EditedUnit,
+    InterfaceSlice, InterfaceTable, ReadUnit, ReaderState, Timestamp, UnitContent,
 };
 pub use classic::{
     FileHeader, FileHeaderError, PcapRecord, PcapRecords, RecordError, RecordFault,

@@ -115,7 +115,8 @@ table! {
 table! {
     [Clone Copy PartialEq Eq Hash]
         ether_pcap::ByteOrder, ether_pcap::LinkType, ether_pcap::capture::CaptureInterface,
-        ether_pcap::capture::CopyMode, ether_pcap::capture::ReaderState, ether_pcap::capture::Timestamp,
+        ether_pcap::capture::CopyMode, ether_pcap::capture::Direction, ether_pcap::capture::ReaderState,
+        ether_pcap::capture::Timestamp,
         ether_pcap::classic::FileHeader, ether_pcap::classic::TimestampResolution;
     [Clone Copy PartialEq Eq Hash Error]
         ether_pcap::capture::CaptureError, ether_pcap::capture::CaptureFault, ether_pcap::classic::FileHeaderError,

@@ -16,6 +16,7 @@ pub static ARP: [Field; 14] = [
         number: 0,
         symbol: "",
         is_member: true,
+        is_column: true,
     },
     Field {
         name: "start",
@@ -28,6 +29,7 @@ pub static ARP: [Field; 14] = [
         number: 0,
         symbol: "",
         is_member: true,
+        is_column: true,
     },
     Field {
         name: "end",
@@ -40,6 +42,7 @@ pub static ARP: [Field; 14] = [
         number: 0,
         symbol: "",
         is_member: true,
+        is_column: true,
     },
     Field {
         name: "payload_end",
@@ -52,6 +55,7 @@ pub static ARP: [Field; 14] = [
         number: 0,
         symbol: "",
         is_member: true,
+        is_column: true,
     },
     Field {
         name: "closed",
@@ -64,6 +68,7 @@ pub static ARP: [Field; 14] = [
         number: 0,
         symbol: "",
         is_member: true,
+        is_column: true,
     },
     Field {
         name: "hrd",
@@ -76,6 +81,7 @@ pub static ARP: [Field; 14] = [
         number: 25,
         symbol: "ARP_HARDWARE_TYPE",
         is_member: true,
+        is_column: true,
     },
     Field {
         name: "pro",
@@ -88,6 +94,7 @@ pub static ARP: [Field; 14] = [
         number: 26,
         symbol: "ARP_PROTOCOL_TYPE",
         is_member: true,
+        is_column: true,
     },
     Field {
         name: "hln",
@@ -100,6 +107,7 @@ pub static ARP: [Field; 14] = [
         number: 27,
         symbol: "ARP_HARDWARE_SIZE",
         is_member: true,
+        is_column: true,
     },
     Field {
         name: "pln",
@@ -112,6 +120,7 @@ pub static ARP: [Field; 14] = [
         number: 28,
         symbol: "ARP_PROTOCOL_SIZE",
         is_member: true,
+        is_column: true,
     },
     Field {
         name: "op",
@@ -124,6 +133,7 @@ pub static ARP: [Field; 14] = [
         number: 29,
         symbol: "ARP_OPERATION",
         is_member: true,
+        is_column: true,
     },
     Field {
         name: "sha",
@@ -136,6 +146,7 @@ pub static ARP: [Field; 14] = [
         number: 30,
         symbol: "ARP_SENDER_HARDWARE",
         is_member: true,
+        is_column: true,
     },
     Field {
         name: "spa",
@@ -148,6 +159,7 @@ pub static ARP: [Field; 14] = [
         number: 31,
         symbol: "ARP_SENDER_PROTOCOL",
         is_member: true,
+        is_column: true,
     },
     Field {
         name: "tha",
@@ -160,6 +172,7 @@ pub static ARP: [Field; 14] = [
         number: 32,
         symbol: "ARP_TARGET_HARDWARE",
         is_member: true,
+        is_column: true,
     },
     Field {
         name: "tpa",
@@ -172,5 +185,6 @@ pub static ARP: [Field; 14] = [
         number: 33,
         symbol: "ARP_TARGET_PROTOCOL",
         is_member: true,
+        is_column: true,
     },
 ];

@@ -16,6 +16,7 @@ pub static ETH: [Field; 9] = [
         number: 0,
         symbol: "",
         is_member: true,
+        is_column: true,
     },
     Field {
         name: "start",
@@ -28,6 +29,7 @@ pub static ETH: [Field; 9] = [
         number: 0,
         symbol: "",
         is_member: true,
+        is_column: true,
     },
     Field {
         name: "end",
@@ -40,6 +42,7 @@ pub static ETH: [Field; 9] = [
         number: 0,
         symbol: "",
         is_member: true,
+        is_column: true,
     },
     Field {
         name: "payload_end",
@@ -52,6 +55,7 @@ pub static ETH: [Field; 9] = [
         number: 0,
         symbol: "",
         is_member: true,
+        is_column: true,
     },
     Field {
         name: "closed",
@@ -64,6 +68,7 @@ pub static ETH: [Field; 9] = [
         number: 0,
         symbol: "",
         is_member: true,
+        is_column: true,
     },
     Field {
         name: "dst",
@@ -76,6 +81,7 @@ pub static ETH: [Field; 9] = [
         number: 1,
         symbol: "ETHERNET2_DESTINATION",
         is_member: true,
+        is_column: true,
     },
     Field {
         name: "src",
@@ -88,6 +94,7 @@ pub static ETH: [Field; 9] = [
         number: 2,
         symbol: "ETHERNET2_SOURCE",
         is_member: true,
+        is_column: true,
     },
     Field {
         name: "type",
@@ -100,6 +107,7 @@ pub static ETH: [Field; 9] = [
         number: 3,
         symbol: "ETHERNET2_ETHER_TYPE",
         is_member: true,
+        is_column: true,
     },
     Field {
         name: "fcs",
@@ -112,5 +120,6 @@ pub static ETH: [Field; 9] = [
         number: 34,
         symbol: "FCS",
         is_member: true,
+        is_column: true,
     },
 ];

@@ -16,6 +16,7 @@ pub static FAULT: [Field; 7] = [
         number: 0,
         symbol: "",
         is_member: true,
+        is_column: true,
     },
     Field {
         name: "closed",
@@ -28,6 +29,7 @@ pub static FAULT: [Field; 7] = [
         number: 0,
         symbol: "",
         is_member: true,
+        is_column: true,
     },
     Field {
         name: "kind",
@@ -40,6 +42,7 @@ pub static FAULT: [Field; 7] = [
         number: 0,
         symbol: "",
         is_member: true,
+        is_column: true,
     },
     Field {
         name: "required",
@@ -52,6 +55,7 @@ pub static FAULT: [Field; 7] = [
         number: 0,
         symbol: "",
         is_member: true,
+        is_column: true,
     },
     Field {
         name: "available",
@@ -64,6 +68,7 @@ pub static FAULT: [Field; 7] = [
         number: 0,
         symbol: "",
         is_member: true,
+        is_column: true,
     },
     Field {
         name: "source",
@@ -76,6 +81,7 @@ pub static FAULT: [Field; 7] = [
         number: 0,
         symbol: "",
         is_member: true,
+        is_column: true,
     },
     Field {
         name: "value",
@@ -88,5 +94,6 @@ pub static FAULT: [Field; 7] = [
         number: 0,
         symbol: "",
         is_member: true,
+        is_column: true,
     },
 ];

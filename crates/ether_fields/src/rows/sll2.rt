@@ -16,6 +16,7 @@ pub static SLL2: [Field; 12] = [
         number: 0,
         symbol: "",
         is_member: true,
+        is_column: true,
     },
     Field {
         name: "start",
@@ -28,6 +29,7 @@ pub static SLL2: [Field; 12] = [
         number: 0,
         symbol: "",
         is_member: true,
+        is_column: true,
     },
     Field {
         name: "end",
@@ -40,6 +42,7 @@ pub static SLL2: [Field; 12] = [
         number: 0,
         symbol: "",
         is_member: true,
+        is_column: true,
     },
     Field {
         name: "payload_end",
@@ -52,6 +55,7 @@ pub static SLL2: [Field; 12] = [
         number: 0,
         symbol: "",
         is_member: true,
+        is_column: true,
     },
     Field {
         name: "closed",
@@ -64,6 +68,7 @@ pub static SLL2: [Field; 12] = [
         number: 0,
         symbol: "",
         is_member: true,
+        is_column: true,
     },
     Field {
         name: "protocol",
@@ -76,6 +81,7 @@ pub static SLL2: [Field; 12] = [
         number: 35,
         symbol: "LINUX_SLL2_PROTOCOL",
         is_member: true,
+        is_column: true,
     },
     Field {
         name: "reserved",
@@ -88,6 +94,7 @@ pub static SLL2: [Field; 12] = [
         number: 36,
         symbol: "LINUX_SLL2_RESERVED",
         is_member: false,
+        is_column: false,
     },
     Field {
         name: "if_index",
@@ -100,6 +107,7 @@ pub static SLL2: [Field; 12] = [
         number: 37,
         symbol: "LINUX_SLL2_INTERFACE_INDEX",
         is_member: true,
+        is_column: true,
     },
     Field {
         name: "hw_type",
@@ -112,6 +120,7 @@ pub static SLL2: [Field; 12] = [
         number: 38,
         symbol: "LINUX_SLL2_HARDWARE_TYPE",
         is_member: true,
+        is_column: true,
     },
     Field {
         name: "packet_type",
@@ -124,6 +133,7 @@ pub static SLL2: [Field; 12] = [
         number: 39,
         symbol: "LINUX_SLL2_PACKET_TYPE",
         is_member: true,
+        is_column: true,
     },
     Field {
         name: "addr_len",
@@ -136,6 +146,7 @@ pub static SLL2: [Field; 12] = [
         number: 40,
         symbol: "LINUX_SLL2_ADDRESS_LEN",
         is_member: true,
+        is_column: true,
     },
     Field {
         name: "addr",
@@ -148,5 +159,6 @@ pub static SLL2: [Field; 12] = [
         number: 41,
         symbol: "LINUX_SLL2_ADDRESS",
         is_member: true,
+        is_column: true,
     },
 ];

@@ -137,6 +137,8 @@ pub(crate) fn read_record<'a>(
     let packet = CapturedPacket {
         time: Some(time),
         interface: None,
+        direction: None,
+        comment: None,
         original_len: record.original_len,
         link_type: header.link_type,
         snap_len: header.snap_len,

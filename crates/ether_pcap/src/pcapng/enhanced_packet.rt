@@ -1,17 +1,19 @@
 //! The body of an enhanced packet.
 ghost use Rattle.std.specs.Prelude.{◌≡◌, ◌-◌, ◌%◌, ◌^◌, ◌≤◌, List, ◌++◌, length, IfOk, IfErr, if◌then◌else◌};
+ghost use Rattle.std.specs.Option.{option_map};
 ghost use Rattle.ether_pcap.specs.Numbers.{field};
 ghost use Rattle.ether_pcap.specs.Bodies.{IsEnhancedPacket, RefusesEnhancedPacket};
 ghost use Rattle.ether_pcap.specs.Options.{padded, OptionValue, HasOptions, value_of, number_of};
-ghost use Rattle.ether_pcap.specs.Capture.{fcs_in_flags};
+ghost use Rattle.ether_pcap.specs.Capture.{direction_in_flags, fcs_in_flags};
 ghost use Rattle.ether_pcap.specs.Writing.{bytes_of};
 ghost use Rattle.ether_pcap.specs.WritingBlocks.{packet_head, packet_block_len, PacketIsRead};
 ghost use Rattle.ether_pcap.specs.Views.{order_of};
 ghost use Rattle.ether_pcap.specs.PcapngViews.{enhanced_packet_view, body_refusal_view};
+ghost use Rattle.ether_pcap.specs.CaptureViews.{direction_view};
 
-use crate::pcapng::pcapng_option::{bytes_from, u32_option};
+use crate::pcapng::pcapng_option::{bytes_from, option_value, u32_option};
 use crate::word_bytes::{four_words, len_word, padded_len, seven_words, word};
-use crate::{BodyError, ByteOrder, PcapRecord, PcapngBlock};
+use crate::{BodyError, ByteOrder, Direction, PcapRecord, PcapngBlock, PcapngOption};
 
 /// The code of the option that has a packet's flags: `epb_flags` of an enhanced packet, `pack_flags` of the obsolete
 /// packet block.
@@ -164,6 +166,51 @@ impl<'a> EnhancedPacket<'a> {
             0 => None,
             len => Some(len as u8),
         }
+    }
+
+    /// Whether the interface received the packet or sent it, if the packet's flags say so (bits 0 and 1 of the flags,
+    /// section 4.3.1).
+    ///
+    /// ```
+    /// let packet = EnhancedPacket {
+    ///     interface: 0,
+    ///     time: 0,
+    ///     original_len: 0,
+    ///     packet: &[],
+    ///     options: &[0x00, 0x02, 0x00, 0x04, 0x00, 0x00, 0x00, 0x02],
+    /// };
+    /// assert_eq!(rt; packet.direction(ByteOrder::BigEndian), Some(Direction::Outbound));
+    /// ```
+    pub fn direction(&self, byte_order: ByteOrder) -> Option<Direction>
+        ensures { (all : List OptionValue) → HasOptions (order_of byte_order) self.now.options.now all
+            → option_map direction_view result
+            ≡ direction_in_flags (number_of (order_of byte_order) 4 (value_of 2 all)) }
+    {
+        let flags = u32_option(byte_order, self.options, FLAGS)?;
+        match flags % 4 {
+            1 => Some(Direction::Inbound),
+            2 => Some(Direction::Outbound),
+            _ => None,
+        }
+    }
+
+    /// The first comment on the packet: a text that should be UTF-8, but may hold any byte.
+    ///
+    /// ```
+    /// let packet = EnhancedPacket {
+    ///     interface: 0,
+    ///     time: 0,
+    ///     original_len: 0,
+    ///     packet: &[],
+    ///     options: &[0x00, 0x01, 0x00, 0x02, b'o', b'k', 0x00, 0x00],
+    /// };
+    /// assert_eq!(rt; packet.comment(ByteOrder::BigEndian), Some(b"ok".as_slice()));
+    /// ```
+    pub fn comment(&self, byte_order: ByteOrder) -> Option<&'a [u8]>
+        ensures { (all : List OptionValue) → HasOptions (order_of byte_order) self.now.options.now all
+            → option_map (λ text. text.now) result ≡ value_of 1 all }
+    {
+        option_value(byte_order, self.options, PcapngOption::COMMENT)
     }
 }
 

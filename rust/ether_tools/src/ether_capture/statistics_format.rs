@@ -2,6 +2,7 @@
 
 use crate::ether_capture::count::Count;
 use crate::ether_capture::row_counts::first_field;
+use etherpeel::ether_format::write_json_text;
 use etherpeel::ether_output::{OutputBuffer, Sink, write_decimal};
 
 /// How packets are counted, and how their counts are written.
@@ -35,9 +36,9 @@ pub(in crate::ether_capture) fn write_statistic<W: Sink>(
             let (column, text) = parts_of(key);
             out.append(b"{\"column\":\"");
             out.append(column);
-            out.append(b"\",\"value\":\"");
-            out.append(text);
-            out.append(b"\",\"packets\":");
+            out.append(b"\",\"value\":");
+            write_json_text(text, out);
+            out.append(b",\"packets\":");
             write_decimal(out, count.packets as u64);
             out.append(b",\"bytes\":");
             write_decimal(out, count.bytes as u64);

@@ -9,8 +9,8 @@
 //! ## `Row`
 //!
 //! The name of a field in its section, what its standard calls it, and the standard's abbreviation if there is one; what
-//! its value is, and how many bits it has; its number for C and the end of its name there; and whether it is a member of
-//! objects and a column.
+//! its value is, and how many bits it has; its number for C and the end of its name there; whether it is a member of
+//! objects; and whether it is a column.
 //!
 //! ```text
 //! pub record Row : Type 0 where
@@ -22,6 +22,7 @@
 //!   pub number : ℕ
 //!   pub symbol : List ℕ
 //!   pub is_member : Bool
+//!   pub is_column : Bool
 //! ```
 //!
 //! <a id="def.field"></a>
@@ -41,6 +42,7 @@
 //!   number = number;
 //!   symbol = symbol;
 //!   is_member = true;
+//!   is_column = true;
 //! }
 //! ```
 //!
@@ -56,7 +58,24 @@
 //!
 //! ```text
 //! abbrev pub hidden : Row → Row
-//! hidden row = record row { is_member = false }
+//! hidden row = record row { is_member = false; is_column = false }
+//! ```
+//!
+//! Uses: [`Row`](#def.Row)
+//!
+//! <a id="def.column_only"></a>
+//!
+//! ## `column_only`
+//!
+//! > `field`: a field
+//! >
+//! > `hidden`: .. that no object or column has
+//!
+//! .. that is a column alone.
+//!
+//! ```text
+//! abbrev pub column_only : Row → Row
+//! column_only row = record row { is_member = false }
 //! ```
 //!
 //! Uses: [`Row`](#def.Row)
@@ -221,7 +240,7 @@
 //!
 //! ## `frame_rows`
 //!
-//! The packet itself (pcapng, 4.3).
+//! The packet itself (pcapng, 4.3), and the minute, the hour and the day of its time.
 //!
 //! ```text
 //! abbrev pub frame_rows : List Row
@@ -232,10 +251,15 @@
 //!     ∷ computed (codes "captured") (codes "Captured length") kind.Number
 //!     ∷ computed (codes "original") (codes "Original length") kind.Number
 //!     ∷ computed (codes "interface") (codes "Interface ID") kind.Number
+//!     ∷ computed (codes "direction") (codes "Direction") kind.Word
+//!     ∷ computed (codes "comment") (codes "Comment") kind.Bytes
+//!     ∷ column_only (computed (codes "minute") (codes "Minute") kind.Time)
+//!     ∷ column_only (computed (codes "hour") (codes "Hour") kind.Time)
+//!     ∷ column_only (computed (codes "day") (codes "Day") kind.Time)
 //!     ∷ []
 //! ```
 //!
-//! Uses: [`Row`](#def.Row), [`computed`](#def.computed), `kind` (`Kind`)
+//! Uses: [`Row`](#def.Row), [`computed`](#def.computed), `kind` (`Kind`), [`column_only`](#def.column_only)
 //!
 //! <a id="def.place_rows"></a>
 //!
@@ -354,16 +378,18 @@
 //!
 //! Uses: [`Row`](#def.Row), [`section_name`](#def.section_name)
 //!
-//! <a id="def.member_names"></a>
+//! <a id="def.column_names"></a>
 //!
-//! ## `member_names`
+//! ## `column_names`
 //!
-//! The names of those that objects and columns have.
+//! > `member_names`: the names of those that objects have
+//!
+//! .. and of those that are columns.
 //!
 //! ```text
-//! abbrev pub member_names : List Row → List (List ℕ)
-//! member_names [] = []
-//! member_names (r ∷ rs) = if r.is_member then r.name ∷ member_names rs else member_names rs
+//! abbrev pub column_names : List Row → List (List ℕ)
+//! column_names [] = []
+//! column_names (r ∷ rs) = if r.is_column then r.name ∷ column_names rs else column_names rs
 //! ```
 //!
 //! Uses: [`Row`](#def.Row)
@@ -441,6 +467,7 @@
 //!   number = f.number;
 //!   symbol = f.symbol.now;
 //!   is_member = f.is_member;
+//!   is_column = f.is_column;
 //! }
 //! ```
 //!

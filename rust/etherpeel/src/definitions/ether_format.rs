@@ -152,8 +152,14 @@
 //!   -- the bytes of an address of IPv4
 //!   Dotted : List ℕ → Value
 //!   Word : List ℕ → Value
+//!   -- a text, which may hold any byte
+//!   Text : List ℕ → Value
 //!   Time : Moment → Value
+//!   -- the minute, the hour or the day of a time
+//!   Within : Interval → Moment → Value
 //! ```
+//!
+//! Uses: [`Interval`](#def.Interval)
 //!
 //! <a id="def.Members.Member"></a>
 //!
@@ -362,20 +368,49 @@
 //!
 //! Uses: [`Value`](#def.Members.Value), [`Number`](#def.Members.Value), [`Word`](#def.Members.Value)
 //!
+//! <a id="def.direction_word"></a>
+//!
+//! ## `direction_word`
+//!
+//! ```text
+//! abbrev pub direction_word : DirectionValue → List ℕ
+//! direction_word Inbound = codes "inbound"
+//! direction_word Outbound = codes "outbound"
+//! ```
+//!
+//! Uses: [`DirectionValue`](crate::definitions::ether_pcap#def.DirectionValue), [`Inbound`](crate::definitions::ether_pcap#def.DirectionValue), [`Outbound`](crate::definitions::ether_pcap#def.DirectionValue)
+//!
+//! <a id="def.own_packet_values"></a>
+//!
+//! ## `own_packet_values`
+//!
+//! The packet itself: its number, time, link type and lengths; and its interface, its direction and a comment on it
+//! (pcapng, 4.3).
+//!
+//! ```text
+//! abbrev pub own_packet_values : (number : ℕ) → PacketValue → Option Moment → List (Option Value)
+//! own_packet_values number p moment =
+//!     Some (Number number) ∷ Some (if_some Time moment) ∷ Some (Number p.link_type)
+//!     ∷ Some (Number (length p.packet)) ∷ Some (Number p.original_len) ∷ Some (if_some Number p.interface)
+//!     ∷ Some (if_some (λ d. Word (direction_word d)) p.direction) ∷ Some (if_some Text p.comment) ∷ []
+//! ```
+//!
+//! Uses: [`PacketValue`](crate::definitions::ether_pcap#def.PacketValue), [`Value`](#def.Members.Value), [`Number`](#def.Members.Value), [`if_some`](#def.if_some), [`Time`](#def.Members.Value), [`Word`](#def.Members.Value), [`direction_word`](#def.direction_word), [`Text`](#def.Members.Value)
+//!
 //! <a id="def.packet_values"></a>
 //!
 //! ## `packet_values`
 //!
-//! The packet itself: its number and its time, link type and lengths, and the number of its interface (pcapng, 4.3).
+//! > `own_packet_values`: the packet itself: its number, time, link type and lengths; and its interface, its direction and a comment on it (pcapng, 4.3)
+//!
+//! .. as an object has them.
 //!
 //! ```text
 //! abbrev pub packet_values : (number : ℕ) → PacketValue → Option Moment → List (Option Value)
-//! packet_values number p moment =
-//!     Some (Number number) ∷ Some (if_some Time moment) ∷ Some (Number p.link_type)
-//!     ∷ Some (Number (length p.packet)) ∷ Some (Number p.original_len) ∷ Some (if_some Number p.interface) ∷ []
+//! packet_values number p moment = own_packet_values number p moment ++ (None ∷ None ∷ None ∷ [])
 //! ```
 //!
-//! Uses: [`PacketValue`](crate::definitions::ether_pcap#def.PacketValue), [`Value`](#def.Members.Value), [`Number`](#def.Members.Value), [`if_some`](#def.if_some), [`Time`](#def.Members.Value)
+//! Uses: [`PacketValue`](crate::definitions::ether_pcap#def.PacketValue), [`Value`](#def.Members.Value), [`own_packet_values`](#def.own_packet_values)
 //!
 //! <a id="def.packet_members"></a>
 //!
@@ -387,6 +422,26 @@
 //! ```
 //!
 //! Uses: [`PacketValue`](crate::definitions::ether_pcap#def.PacketValue), [`Member`](#def.Members.Member), [`members`](#def.members), [`frame_rows`](crate::definitions::ether_fields#def.frame_rows), [`packet_values`](#def.packet_values)
+//!
+//! <a id="def.packet_columns"></a>
+//!
+//! ## `packet_columns`
+//!
+//! > `own_packet_values`: the packet itself: its number, time, link type and lengths; and its interface, its direction and a comment on it (pcapng, 4.3)
+//! >
+//! > `packet_values`: .. as an object has them
+//!
+//! .. and as columns, with the minute, the hour and the day of its time.
+//!
+//! ```text
+//! abbrev pub packet_columns : (number : ℕ) → PacketValue → Option Moment → List (Option Value)
+//! packet_columns number p moment =
+//!     own_packet_values number p moment
+//!     ++ (Some (if_some (Within intervals.Minute) moment) ∷ Some (if_some (Within intervals.Hour) moment)
+//!     ∷ Some (if_some (Within intervals.Day) moment) ∷ [])
+//! ```
+//!
+//! Uses: [`PacketValue`](crate::definitions::ether_pcap#def.PacketValue), [`Value`](#def.Members.Value), [`own_packet_values`](#def.own_packet_values), [`if_some`](#def.if_some), [`Within`](#def.Members.Value), [`intervals.Minute`](#def.Interval), [`intervals.Hour`](#def.Interval), [`intervals.Day`](#def.Interval)
 //!
 //! # Causes
 //!
@@ -947,11 +1002,26 @@
 //!     ∷ (48 + n / 10 ^ 3 % 10) ∷ (48 + n / 10 ^ 2 % 10) ∷ (48 + n / 10 % 10) ∷ (48 + n % 10) ∷ []
 //! ```
 //!
+//! <a id="def.day_text"></a>
+//!
+//! ## `day_text`
+//!
+//! The date of a moment as in ISO 8601 (RFC 3339, 5.6).
+//!
+//! ```text
+//! unfoldable pub day_text : Moment → List ℕ
+//! day_text m = decimal m.year ++ (codes "-" ++ two_digits m.month ++ codes "-" ++ two_digits m.day)
+//! ```
+//!
+//! Uses: [`two_digits`](crate::definitions::ether_output#def.two_digits)
+//!
 //! <a id="def.date_text"></a>
 //!
 //! ## `date_text`
 //!
-//! The date and the time of day of a moment as in ISO 8601 (RFC 3339, 5.6).
+//! > `day_text`: the date of a moment as in ISO 8601 (RFC 3339, 5.6)
+//!
+//! .. with the time of day.
 //!
 //! ```text
 //! unfoldable pub date_text : Moment → List ℕ
@@ -967,7 +1037,9 @@
 //!
 //! ## `dated_text`
 //!
-//! > `date_text`: the date and the time of day of a moment as in ISO 8601 (RFC 3339, 5.6)
+//! > `day_text`: the date of a moment as in ISO 8601 (RFC 3339, 5.6)
+//! >
+//! > `date_text`: .. with the time of day
 //!
 //! .. with nine decimals.
 //!
@@ -1015,6 +1087,33 @@
 //!
 //! Uses: [`has_date`](#def.has_date), [`dated_text`](#def.dated_text), [`seconds_text`](#def.seconds_text)
 //!
+//! <a id="def.up_to"></a>
+//!
+//! ## `up_to`
+//!
+//! A date up to the minute, the hour or the day; a moment without a date has none.
+//!
+//! ```text
+//! abbrev pub up_to : Interval → Moment → List ℕ
+//! up_to intervals.Minute m =
+//!     day_text m ++ (codes "T" ++ two_digits m.hour ++ codes ":" ++ two_digits m.minute ++ codes "Z")
+//! up_to intervals.Hour m = day_text m ++ (codes "T" ++ two_digits m.hour ++ codes "Z")
+//! up_to intervals.Day m = day_text m
+//! ```
+//!
+//! Uses: [`Interval`](#def.Interval), [`intervals.Minute`](#def.Interval), [`day_text`](#def.day_text), [`two_digits`](crate::definitions::ether_output#def.two_digits), [`intervals.Hour`](#def.Interval), [`intervals.Day`](#def.Interval)
+//!
+//! <a id="def.interval_text"></a>
+//!
+//! ## `interval_text`
+//!
+//! ```text
+//! unfoldable pub interval_text : Interval → Moment → List ℕ
+//! interval_text interval m = if has_date m then up_to interval m else []
+//! ```
+//!
+//! Uses: [`Interval`](#def.Interval), [`has_date`](#def.has_date), [`up_to`](#def.up_to)
+//!
 //! **In JSON (RFC 8259, 3)**
 //!
 //! <a id="def.quoted"></a>
@@ -1039,6 +1138,35 @@
 //!
 //! Uses: [`has_date`](#def.has_date), [`quoted`](#def.quoted), [`dated_text`](#def.dated_text), [`seconds_text`](#def.seconds_text)
 //!
+//! <a id="def.json_byte"></a>
+//!
+//! ## `json_byte`
+//!
+//! A text: quotation mark, backslash and control characters are escaped (7). Each byte above 127 of a text that is not
+//! UTF-8 is the replacement character of Unicode.
+//!
+//! ```text
+//! abbrev pub json_byte : (utf8 : Bool) → ℕ → List ℕ
+//! json_byte utf8 b =
+//!     if nat_eq b 34 then codes "\\\""
+//!     else (if nat_eq b 92 then codes "\\\\"
+//!     else (if nat_lt b 32 then codes "\\u00" ++ hex_byte false b
+//!     else (if nat_lt 127 b && not utf8 then codes "\\ufffd" else b ∷ [])))
+//! ```
+//!
+//! Uses: [`hex_byte`](crate::definitions::ether_base#def.hex_byte)
+//!
+//! <a id="def.json_text"></a>
+//!
+//! ## `json_text`
+//!
+//! ```text
+//! unfoldable pub json_text : List ℕ → List ℕ
+//! json_text bytes = quoted (flat_map (json_byte (is_utf8 bytes)) bytes)
+//! ```
+//!
+//! Uses: [`quoted`](#def.quoted), [`json_byte`](#def.json_byte)
+//!
 //! <a id="def.flag_text"></a>
 //!
 //! ## `flag_text`
@@ -1062,12 +1190,39 @@
 //! json_value (Bytes bytes) = quoted (colon_text bytes)
 //! json_value (Dotted bytes) = quoted (dotted_text bytes)
 //! json_value (Word word) = quoted word
+//! json_value (Text bytes) = json_text bytes
 //! json_value (Time m) = json_moment m
+//! json_value (Within interval m) = quoted (interval_text interval m)
 //! ```
 //!
-//! Uses: [`Value`](#def.Members.Value), [`Nothing`](#def.Members.Value), [`Number`](#def.Members.Value), [`Protocol`](#def.Members.Value), [`Flag`](#def.Members.Value), [`flag_text`](#def.flag_text), [`Bytes`](#def.Members.Value), [`quoted`](#def.quoted), [`colon_text`](#def.colon_text), [`Dotted`](#def.Members.Value), [`dotted_text`](#def.dotted_text), [`Word`](#def.Members.Value), [`Time`](#def.Members.Value), [`json_moment`](#def.json_moment)
+//! Uses: [`Value`](#def.Members.Value), [`Nothing`](#def.Members.Value), [`Number`](#def.Members.Value), [`Protocol`](#def.Members.Value), [`Flag`](#def.Members.Value), [`flag_text`](#def.flag_text), [`Bytes`](#def.Members.Value), [`quoted`](#def.quoted), [`colon_text`](#def.colon_text), [`Dotted`](#def.Members.Value), [`dotted_text`](#def.dotted_text), [`Word`](#def.Members.Value), [`Text`](#def.Members.Value), [`json_text`](#def.json_text), [`Time`](#def.Members.Value), [`json_moment`](#def.json_moment), [`Within`](#def.Members.Value), [`interval_text`](#def.interval_text)
 //!
 //! **In a column; what a header does not have is empty**
+//!
+//! <a id="def.row_byte"></a>
+//!
+//! ## `row_byte`
+//!
+//! A text: tab, line feed, carriage return and backslash are escaped.
+//!
+//! ```text
+//! abbrev pub row_byte : ℕ → List ℕ
+//! row_byte b =
+//!     if nat_eq b 9 then codes "\\t"
+//!     else (if nat_eq b 10 then codes "\\n"
+//!     else (if nat_eq b 13 then codes "\\r" else (if nat_eq b 92 then codes "\\\\" else b ∷ [])))
+//! ```
+//!
+//! <a id="def.row_escaped"></a>
+//!
+//! ## `row_escaped`
+//!
+//! ```text
+//! unfoldable pub row_escaped : List ℕ → List ℕ
+//! row_escaped bytes = flat_map row_byte bytes
+//! ```
+//!
+//! Uses: [`row_byte`](#def.row_byte)
 //!
 //! <a id="def.column_value"></a>
 //!
@@ -1082,10 +1237,12 @@
 //! column_value (Bytes bytes) = colon_text bytes
 //! column_value (Dotted bytes) = dotted_text bytes
 //! column_value (Word word) = word
+//! column_value (Text bytes) = row_escaped bytes
 //! column_value (Time m) = moment_text m
+//! column_value (Within interval m) = interval_text interval m
 //! ```
 //!
-//! Uses: [`Value`](#def.Members.Value), [`Nothing`](#def.Members.Value), [`Number`](#def.Members.Value), [`Protocol`](#def.Members.Value), [`hex_number`](crate::definitions::ether_base#def.hex_number), [`Flag`](#def.Members.Value), [`flag_text`](#def.flag_text), [`Bytes`](#def.Members.Value), [`colon_text`](#def.colon_text), [`Dotted`](#def.Members.Value), [`dotted_text`](#def.dotted_text), [`Word`](#def.Members.Value), [`Time`](#def.Members.Value), [`moment_text`](#def.moment_text)
+//! Uses: [`Value`](#def.Members.Value), [`Nothing`](#def.Members.Value), [`Number`](#def.Members.Value), [`Protocol`](#def.Members.Value), [`hex_number`](crate::definitions::ether_base#def.hex_number), [`Flag`](#def.Members.Value), [`flag_text`](#def.flag_text), [`Bytes`](#def.Members.Value), [`colon_text`](#def.colon_text), [`Dotted`](#def.Members.Value), [`dotted_text`](#def.dotted_text), [`Word`](#def.Members.Value), [`Text`](#def.Members.Value), [`row_escaped`](#def.row_escaped), [`Time`](#def.Members.Value), [`moment_text`](#def.moment_text), [`Within`](#def.Members.Value), [`interval_text`](#def.interval_text)
 //!
 //! # JSON
 //!
@@ -1786,11 +1943,11 @@
 //! ```text
 //! abbrev pub sections : ℕ → PacketValue → Option Moment → List Told → End → List Section
 //! sections number p moment headers end =
-//!     section (codes "frame") (packet_members number p moment)
+//!     section (codes "frame") (members frame_rows (packet_columns number p moment))
 //!     ∷ (flat_map header_sections headers ++ (section (section_name (end_section end)) (end_members end) ∷ []))
 //! ```
 //!
-//! Uses: [`PacketValue`](crate::definitions::ether_pcap#def.PacketValue), [`Told`](#def.Told), [`End`](#def.End), [`Section`](#def.Section), [`section`](#def.section), [`packet_members`](#def.packet_members), [`header_sections`](#def.header_sections), [`section_name`](crate::definitions::ether_fields#def.section_name), [`end_section`](#def.end_section), [`end_members`](#def.end_members)
+//! Uses: [`PacketValue`](crate::definitions::ether_pcap#def.PacketValue), [`Told`](#def.Told), [`End`](#def.End), [`Section`](#def.Section), [`section`](#def.section), [`members`](#def.members), [`frame_rows`](crate::definitions::ether_fields#def.frame_rows), [`packet_columns`](#def.packet_columns), [`header_sections`](#def.header_sections), [`section_name`](crate::definitions::ether_fields#def.section_name), [`end_section`](#def.end_section), [`end_members`](#def.end_members)
 //!
 //! **A column**
 //!
@@ -1798,7 +1955,7 @@
 //!
 //! ## `ColumnValue`
 //!
-//! The name of a section, and that of a member.
+//! The name of a section, and that of a field.
 //!
 //! ```text
 //! pub record ColumnValue : Type 0 where
@@ -1889,10 +2046,10 @@
 //! pub record IsColumn (c : ColumnValue) : Type 0 where
 //!   pub of : DeclaredSection
 //!   pub is_section : c.section ≡ section_name of
-//!   pub is_member : IsAmong (member_names (section_rows of)) c.member
+//!   pub is_field : IsAmong (column_names (section_rows of)) c.member
 //! ```
 //!
-//! Uses: [`ColumnValue`](#def.ColumnValue), `DeclaredSection` (`Section`), [`section_name`](crate::definitions::ether_fields#def.section_name), [`member_names`](crate::definitions::ether_fields#def.member_names), [`section_rows`](crate::definitions::ether_fields#def.section_rows)
+//! Uses: [`ColumnValue`](#def.ColumnValue), `DeclaredSection` (`Section`), [`section_name`](crate::definitions::ether_fields#def.section_name), [`column_names`](crate::definitions::ether_fields#def.column_names), [`section_rows`](crate::definitions::ether_fields#def.section_rows)
 //!
 //! <a id="def.AreColumns"></a>
 //!
@@ -2071,6 +2228,33 @@
 //!
 //! Uses: [`csv_field`](#def.csv_field)
 //!
+//! <a id="def.csv_value"></a>
+//!
+//! ## `csv_value`
+//!
+//! A text as its own bytes, another value as in a row.
+//!
+//! ```text
+//! abbrev pub csv_value : Value → List ℕ
+//! csv_value (Text bytes) = bytes
+//! csv_value value = column_value value
+//! ```
+//!
+//! Uses: [`Value`](#def.Members.Value), [`Text`](#def.Members.Value), [`column_value`](#def.column_value)
+//!
+//! <a id="def.csv_text"></a>
+//!
+//! ## `csv_text`
+//!
+//! The values of a column, with a comma between two.
+//!
+//! ```text
+//! abbrev pub csv_text : ColumnValue → List Section → List ℕ
+//! csv_text c parts = join_by csv_value (codes ",") (flat_map (values_in c) parts)
+//! ```
+//!
+//! Uses: [`ColumnValue`](#def.ColumnValue), [`Section`](#def.Section), [`csv_value`](#def.csv_value), [`values_in`](#def.values_in)
+//!
 //! <a id="def.csv_row"></a>
 //!
 //! ## `csv_row`
@@ -2079,10 +2263,10 @@
 //!
 //! ```text
 //! abbrev pub csv_row : List ColumnValue → List Section → List ℕ
-//! csv_row columns parts = csv_record (λ c. column_text c parts) columns
+//! csv_row columns parts = csv_record (λ c. csv_text c parts) columns
 //! ```
 //!
-//! Uses: [`ColumnValue`](#def.ColumnValue), [`Section`](#def.Section), [`csv_record`](#def.csv_record), [`column_text`](#def.column_text)
+//! Uses: [`ColumnValue`](#def.ColumnValue), [`Section`](#def.Section), [`csv_record`](#def.csv_record), [`csv_text`](#def.csv_text)
 //!
 //! <a id="def.csv_heading"></a>
 //!
@@ -2229,6 +2413,20 @@
 //! ```
 //!
 //! Uses: [`Cause`](#def.Cause)
+//!
+//! <a id="def.Interval"></a>
+//!
+//! ## `Interval`
+//!
+//! An interval of a time: its minute, its hour or its day.
+//!
+//! ```text
+//! enum Interval {
+//!     Minute,
+//!     Hour,
+//!     Day,
+//! }
+//! ```
 //!
 //! <a id="def.Place"></a>
 //!

@@ -971,18 +971,32 @@
 //!
 //! Uses: [`TimeValue`](#def.TimeValue)
 //!
+//! <a id="def.DirectionValue"></a>
+//!
+//! ## `DirectionValue`
+//!
+//! Whether an interface received a packet or sent it.
+//!
+//! ```text
+//! pub data DirectionValue : Type 0 where
+//!   Inbound : DirectionValue
+//!   Outbound : DirectionValue
+//! ```
+//!
 //! <a id="def.PacketValue"></a>
 //!
 //! ## `PacketValue`
 //!
-//! A captured packet: its time and the number of its interface, if the file gives them; its length before it was cut;
-//! the link type, snap length and length of the frame check sequence that the file gives for it; and its captured
-//! bytes.
+//! A captured packet: its time, the number of its interface, its direction and a comment on it, if the file gives them;
+//! its length before it was cut; the link type, snap length and length of the frame check sequence that the file gives
+//! for it; and its captured bytes.
 //!
 //! ```text
 //! pub record PacketValue : Type 0 where
 //!   pub time : Option TimeValue
 //!   pub interface : Option ℕ
+//!   pub direction : Option DirectionValue
+//!   pub comment : Option (List ℕ)
 //!   pub original_len : ℕ
 //!   pub link_type : ℕ
 //!   pub snap_len : ℕ
@@ -990,7 +1004,7 @@
 //!   pub packet : List ℕ
 //! ```
 //!
-//! Uses: [`TimeValue`](#def.TimeValue)
+//! Uses: [`TimeValue`](#def.TimeValue), [`DirectionValue`](#def.DirectionValue)
 //!
 //! <a id="def.packet_of_record"></a>
 //!
@@ -1001,6 +1015,8 @@
 //! packet_of_record h r = record {
 //!   time = Some (time_of (nanoseconds_of h.resolution r.seconds r.fraction));
 //!   interface = None;
+//!   direction = None;
+//!   comment = None;
 //!   original_len = r.original_len;
 //!   link_type = h.link_type;
 //!   snap_len = h.snap_len;
@@ -1178,17 +1194,34 @@
 //! fcs_of (Some n) m = Some n
 //! ```
 //!
+//! <a id="def.direction_in_flags"></a>
+//!
+//! ## `direction_in_flags`
+//!
+//! The direction in the flags of a packet (4.3.1): bits 0 and 1, where 1 is inbound and 2 is outbound.
+//!
+//! ```text
+//! abbrev pub direction_in_flags : Option ℕ → Option DirectionValue
+//! direction_in_flags None = None
+//! direction_in_flags (Some flags) =
+//!     let n = flags % 2 ^ 2 in if nat_eq n 1 then Some Inbound else (if nat_eq n 2 then Some Outbound else None)
+//! ```
+//!
+//! Uses: [`DirectionValue`](#def.DirectionValue), [`Inbound`](#def.DirectionValue), [`Outbound`](#def.DirectionValue)
+//!
 //! <a id="def.packet_on"></a>
 //!
 //! ## `packet_on`
 //!
-//! What a packet's block, its interface and its option epb\_flags or pack\_flags (2) say of it.
+//! What a packet's block, its interface, its option epb\_flags or pack\_flags (2) and its first comment (1) say of it.
 //!
 //! ```text
 //! abbrev pub packet_on : Order → CaptureInterfaceValue → EnhancedPacketValue → List OptionValue → PacketValue
 //! packet_on order i p options = record {
 //!   time = time_on i p.time;
 //!   interface = Some p.interface;
+//!   direction = direction_in_flags (number_of order 4 (value_of 2 options));
+//!   comment = value_of 1 options;
 //!   original_len = p.original_len;
 //!   link_type = i.link_type;
 //!   snap_len = i.snap_len;
@@ -1197,7 +1230,7 @@
 //! }
 //! ```
 //!
-//! Uses: [`Order`](#def.Order), [`CaptureInterfaceValue`](#def.CaptureInterfaceValue), [`EnhancedPacketValue`](#def.EnhancedPacketValue), [`OptionValue`](#def.OptionValue), [`PacketValue`](#def.PacketValue), [`time_on`](#def.time_on), [`fcs_of`](#def.fcs_of), [`fcs_in_flags`](#def.fcs_in_flags), [`number_of`](#def.number_of), [`value_of`](#def.value_of)
+//! Uses: [`Order`](#def.Order), [`CaptureInterfaceValue`](#def.CaptureInterfaceValue), [`EnhancedPacketValue`](#def.EnhancedPacketValue), [`OptionValue`](#def.OptionValue), [`PacketValue`](#def.PacketValue), [`time_on`](#def.time_on), [`direction_in_flags`](#def.direction_in_flags), [`number_of`](#def.number_of), [`value_of`](#def.value_of), [`fcs_of`](#def.fcs_of), [`fcs_in_flags`](#def.fcs_in_flags)
 //!
 //! <a id="def.simple_packet_on"></a>
 //!
@@ -1211,6 +1244,8 @@
 //!     record {
 //!       time = None;
 //!       interface = Some 0;
+//!       direction = None;
+//!       comment = None;
 //!       original_len = p.original_len;
 //!       link_type = i.link_type;
 //!       snap_len = i.snap_len;
@@ -1520,6 +1555,18 @@
 //!
 //! Uses: [`TimeValue`](#def.TimeValue)
 //!
+//! <a id="def.direction_view"></a>
+//!
+//! ## `direction_view`
+//!
+//! ```text
+//! abbrev pub direction_view : Direction → DirectionValue
+//! direction_view directions.Inbound = Inbound
+//! direction_view directions.Outbound = Outbound
+//! ```
+//!
+//! Uses: [`DirectionValue`](#def.DirectionValue), `directions` (`Direction`), [`Inbound`](#def.DirectionValue), [`Outbound`](#def.DirectionValue)
+//!
 //! <a id="def.captured_packet_view"></a>
 //!
 //! ## `captured_packet_view`
@@ -1529,6 +1576,8 @@
 //! captured_packet_view p = record {
 //!   time = option_map timestamp_view p.time;
 //!   interface = p.interface;
+//!   direction = option_map direction_view p.direction;
+//!   comment = option_map (λ text. text.now) p.comment;
 //!   original_len = p.original_len;
 //!   link_type = p.link_type.0;
 //!   snap_len = p.snap_len;
@@ -1537,7 +1586,7 @@
 //! }
 //! ```
 //!
-//! Uses: [`PacketValue`](#def.PacketValue), [`timestamp_view`](#def.timestamp_view)
+//! Uses: [`PacketValue`](#def.PacketValue), [`timestamp_view`](#def.timestamp_view), [`direction_view`](#def.direction_view)
 //!
 //! <a id="def.capture_refusal_view"></a>
 //!

@@ -133,6 +133,7 @@
 //! | `pointwise f xs ys` | Whether the lists are equally long, and `f` is `true` for each two elements at the same index. |
 //! | `bytes_eq xs ys` | Whether two lists of bytes are equal. |
 //! | `codes "text"` | The bytes of an ASCII text. |
+//! | `is_utf8 xs` | Whether bytes are UTF-8. |
 //! | `ipv4_octets a` | The four bytes of an `Ipv4Addr`. |
 //!
 //! # Options and results

@@ -18,6 +18,8 @@ pub(in crate::ether_content) const FCS_LEN: usize = 4;
 /// let packet = CapturedPacket {
 ///     time: None,
 ///     interface: None,
+///     direction: None,
+///     comment: None,
 ///     original_len: 60,
 ///     link_type: LinkType::ETHERNET,
 ///     snap_len: 262_144,
@@ -188,6 +190,8 @@ fn has_fcs(packet: &CapturedPacket<'_>) -> bool {
 /// let packet = CapturedPacket {
 ///     time: None,
 ///     interface: None,
+///     direction: None,
+///     comment: None,
 ///     original_len: 18,
 ///     link_type: LinkType::ETHERNET,
 ///     snap_len: 262_144,

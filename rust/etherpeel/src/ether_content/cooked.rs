@@ -16,6 +16,8 @@ use crate::{ArpHardwareId, EtherType, LinuxSllPacketType, LinuxSllProtocolType};
 /// let packet = CapturedPacket {
 ///     time: None,
 ///     interface: None,
+///     direction: None,
+///     comment: None,
 ///     original_len: 18,
 ///     link_type: LinkType::LINUX_SLL,
 ///     snap_len: 262_144,

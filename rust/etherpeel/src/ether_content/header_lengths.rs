@@ -19,6 +19,8 @@ use crate::ether_sll2::{LinuxSll2Header, LinuxSll2Slice};
 /// let packet = CapturedPacket {
 ///     time: None,
 ///     interface: None,
+///     direction: None,
+///     comment: None,
 ///     original_len: 60,
 ///     link_type: LinkType::ETHERNET,
 ///     snap_len: 262_144,

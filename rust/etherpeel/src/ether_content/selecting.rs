@@ -18,6 +18,8 @@ use crate::ether_pcap::CapturedPacket;
 /// let packet = CapturedPacket {
 ///     time: None,
 ///     interface: None,
+///     direction: None,
+///     comment: None,
 ///     original_len: 60,
 ///     link_type: LinkType::ETHERNET,
 ///     snap_len: 262_144,
@@ -87,6 +89,8 @@ pub fn is_undecided(filter: &Filter, packet: &CapturedPacket<'_>) -> bool {
 /// let packet = CapturedPacket {
 ///     time: None,
 ///     interface: None,
+///     direction: None,
+///     comment: None,
 ///     original_len: 60,
 ///     link_type: LinkType::ETHERNET,
 ///     snap_len: 16,

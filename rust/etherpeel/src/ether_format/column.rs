@@ -66,5 +66,5 @@ fn index_of(fields: &[Field], name: &[u8]) -> Option<usize> {
 /// Whether a field is the member with this name.
 #[inline]
 fn is_named(field: &Field, name: &[u8]) -> bool {
-    field.is_member && field.name.as_bytes() == name
+    field.is_column && field.name.as_bytes() == name
 }

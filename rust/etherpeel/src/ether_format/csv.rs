@@ -6,8 +6,12 @@ use crate::ether_format::end::End;
 use crate::ether_format::found::Found;
 use crate::ether_format::gathered::{Gatherer, Headers};
 use crate::ether_format::row::{RowPacket, write_column};
+use crate::ether_format::spelling::write_column_value;
+use crate::ether_format::text::write_csv_text;
 use crate::ether_format::value::Value;
+use crate::ether_format::values::packet_value;
 use crate::ether_format::visit::{Visitor, visit};
+use crate::ether_fields::Section;
 use crate::ether_output::{OutputBuffer, Sink};
 use crate::ether_pcap::CapturedPacket;
 
@@ -61,10 +65,55 @@ fn write_record<W: Sink>(
     }
 }
 
-/// Writes a column. It is enclosed in double quotes if it has several values, since there is a comma between two. A
-/// value has none of the bytes that ask for double quotes.
+/// Writes a column.
 #[inline]
 fn write_field<W: Sink>(
+    column: Column,
+    row: &RowPacket<'_>,
+    headers: &[Found<'_>],
+    gatherer: &Gatherer,
+    end: &End,
+    out: &mut OutputBuffer<'_, W>,
+) {
+    if column.section == Section::Frame {
+        let index = usize::from(column.index);
+        write_only_field(packet_value(row.number, row.packet, index), out);
+    } else {
+        write_values_field(column, row, headers, gatherer, end, out);
+    }
+}
+
+/// Writes the only value of a column, if there is one.
+#[inline]
+fn write_only_field<W: Sink>(value: Option<Value<'_>>, out: &mut OutputBuffer<'_, W>) {
+    if let Some(value) = value {
+        write_value_field(&value, out);
+    }
+}
+
+/// Writes a value as a field. Only a text or a word can have a byte that asks for double quotes.
+#[inline]
+fn write_value_field<W: Sink>(value: &Value<'_>, out: &mut OutputBuffer<'_, W>) {
+    match text_of(value) {
+        Some(text) => write_csv_text(text, out),
+        None => write_column_value(value, out),
+    }
+}
+
+/// The bytes of a text or a word.
+#[inline]
+fn text_of<'a>(value: &Value<'a>) -> Option<&'a [u8]> {
+    match value {
+        Value::Text(text) => Some(text),
+        Value::Word(word) => Some(word.as_bytes()),
+        _ => None,
+    }
+}
+
+/// Writes a column of headers, or of how a walk ends. It is enclosed in double quotes if it has several values, since
+/// there is a comma between two. None of them has a byte that asks for double quotes.
+#[inline]
+fn write_values_field<W: Sink>(
     column: Column,
     row: &RowPacket<'_>,
     headers: &[Found<'_>],

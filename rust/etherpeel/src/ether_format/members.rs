@@ -31,7 +31,7 @@ fn member<'a>(field: &Field, value: Option<Value<'a>>) -> Member<'a> {
 
 /// The members of a packet.
 #[inline(always)]
-pub(in crate::ether_format) fn packet<'a>(number: usize, packet: &CapturedPacket<'_>) -> [Member<'a>; 6] {
+pub(in crate::ether_format) fn packet<'a>(number: usize, packet: &CapturedPacket<'a>) -> [Member<'a>; 8] {
     [
         member(&rows::FRAME[0], packet_value(number, packet, 0)),
         member(&rows::FRAME[1], packet_value(number, packet, 1)),
@@ -39,6 +39,8 @@ pub(in crate::ether_format) fn packet<'a>(number: usize, packet: &CapturedPacket
         member(&rows::FRAME[3], packet_value(number, packet, 3)),
         member(&rows::FRAME[4], packet_value(number, packet, 4)),
         member(&rows::FRAME[5], packet_value(number, packet, 5)),
+        member(&rows::FRAME[6], packet_value(number, packet, 6)),
+        member(&rows::FRAME[7], packet_value(number, packet, 7)),
     ]
 }
 

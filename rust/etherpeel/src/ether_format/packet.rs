@@ -22,6 +22,8 @@ use crate::ether_pcap::CapturedPacket;
 /// let packet = CapturedPacket {
 ///     time: Some(Timestamp { seconds: 1_700_000_000, nanoseconds: 1_000 }),
 ///     interface: None,
+///     direction: None,
+///     comment: None,
 ///     original_len: 60,
 ///     link_type: LinkType::ETHERNET,
 ///     snap_len: 262_144,
@@ -34,8 +36,8 @@ use crate::ether_pcap::CapturedPacket;
 /// assert_eq!(out.flush(), Ok(()));
 /// assert_eq!(
 ///     written.as_slice(),
-///     b"{\"number\":1,\"time\":\"2023-11-14T22:13:20.000001000Z\",\"link\":1,\"captured\":14,\"original\":60,\"interface\":null,\"headers\":[{\
-/// \"header\":\"eth\",\"start\":0,\"end\":14,\"payload_end\":14,\"closed\":false,\"dst\":\"ff:ff:ff:ff:ff:ff\",\"src\":\"02:00:00:00:00:01\",\"type\":2048,\
+///     b"{\"number\":1,\"time\":\"2023-11-14T22:13:20.000001000Z\",\"link\":1,\"captured\":14,\"original\":60,\"interface\":null,\"direction\":null,\
+/// \"comment\":null,\"headers\":[{\"header\":\"eth\",\"start\":0,\"end\":14,\"payload_end\":14,\"closed\":false,\"dst\":\"ff:ff:ff:ff:ff:ff\",\"src\":\"02:00:00:00:00:01\",\"type\":2048,\
 /// \"fcs\":null}],\"rest\":{\"start\":14,\"end\":14,\"kind\":\"ether_type\",\"type\":2048}}\n".as_slice()
 /// );
 /// # }

@@ -1,6 +1,8 @@
 //! Writes values as text.
 
 use crate::ether_format::Moment;
+use crate::ether_format::interval::Interval;
+use crate::ether_format::text::{write_json_text, write_row_text};
 use crate::ether_format::value::Value;
 use crate::ether_output::{OutputBuffer, Sink, digit_pair, eight_digits, hex_type, write_decimal};
 use crate::EtherType;
@@ -20,7 +22,9 @@ pub(in crate::ether_format) fn write_json_value<W: Sink>(value: &Value<'_>, out:
         Value::Bytes(bytes) => write_quoted_bytes(bytes, out),
         Value::Dotted(bytes) => write_quoted_dotted(bytes, out),
         Value::Word(word) => write_quoted_word(word, out),
+        Value::Text(text) => write_json_text(text, out),
         Value::Time(moment) => write_json_moment(moment, out),
+        Value::Within(interval, moment) => write_quoted_interval(*interval, moment, out),
     }
 }
 
@@ -39,7 +43,9 @@ pub(in crate::ether_format) fn write_column_value<W: Sink>(value: &Value<'_>, ou
         Value::Bytes(bytes) => write_colons(bytes, out),
         Value::Dotted(bytes) => write_dotted(bytes, out),
         Value::Word(word) => out.append(word.as_bytes()),
+        Value::Text(text) => write_row_text(text, out),
         Value::Time(moment) => write_moment(moment, out),
+        Value::Within(interval, moment) => write_interval(*interval, moment, out),
     }
 }
 
@@ -173,6 +179,48 @@ pub(in crate::ether_format) fn write_moment<W: Sink>(moment: &Moment, out: &mut 
     } else {
         write_seconds(moment, out);
     }
+}
+
+/// Writes an interval of a moment between quotation marks.
+#[inline(never)]
+fn write_quoted_interval<W: Sink>(
+    interval: Interval,
+    moment: &Moment,
+    out: &mut OutputBuffer<'_, W>,
+) {
+    out.append(b"\"");
+    write_interval(interval, moment, out);
+    out.append(b"\"");
+}
+
+/// Writes the date of a moment up to the minute, the hour or the day. A moment without a date has none.
+#[inline(never)]
+fn write_interval<W: Sink>(interval: Interval, moment: &Moment, out: &mut OutputBuffer<'_, W>) {
+    if has_date(moment) {
+        write_up_to(interval, moment, out);
+    }
+}
+
+/// Writes the date of a moment up to the minute, the hour or the day.
+#[inline]
+fn write_up_to<W: Sink>(interval: Interval, moment: &Moment, out: &mut OutputBuffer<'_, W>) {
+    write_day(moment, out);
+    let h = two_digits(moment.hour);
+    let m = two_digits(moment.minute);
+    match interval {
+        Interval::Minute => out.append_array([b'T', h[0], h[1], b':', m[0], m[1], b'Z']),
+        Interval::Hour => out.append_array([b'T', h[0], h[1], b'Z']),
+        Interval::Day => {}
+    }
+}
+
+/// Writes the date of a moment.
+#[inline]
+fn write_day<W: Sink>(moment: &Moment, out: &mut OutputBuffer<'_, W>) {
+    let m = two_digits(moment.month);
+    let d = two_digits(moment.day);
+    write_decimal(out, moment.year);
+    out.append_array([b'-', m[0], m[1], b'-', d[0], d[1]]);
 }
 
 /// Whether the year has at most four digits, as in RFC 3339.

@@ -1,5 +1,6 @@
 //! The value of a field, and a member of an object.
 use crate::ether_format::Moment;
+use crate::ether_format::interval::Interval;
 
 /// The value of a field.
 #[derive(Clone, Copy)]
@@ -26,8 +27,12 @@ pub(in crate::ether_format) enum Value<'a> {
     Dotted(&'a [u8]),
     /// A word.
     Word(&'static str),
+    /// A text, which may hold any byte.
+    Text(&'a [u8]),
     /// A time.
     Time(Moment),
+    /// The minute, the hour or the day of a time.
+    Within(Interval, Moment),
 }
 
 /// A member of an object.

@@ -2,12 +2,13 @@
 
 use crate::ether_format::Moment;
 use crate::ether_format::calendar::moment_of;
+use crate::ether_format::interval::Interval;
 use crate::ether_format::place::Place;
 use crate::ether_format::spelling::first_of;
 use crate::ether_format::value::Value;
 use crate::ether_content::CookedHeader;
 use crate::ether_fields::Section;
-use crate::ether_pcap::{CapturedPacket, Timestamp};
+use crate::ether_pcap::{CapturedPacket, Direction, Timestamp};
 use crate::ether_peel::PeelUnit;
 use crate::ether_sll2::LinuxSll2Slice;
 use crate::{
@@ -19,7 +20,7 @@ use crate::{
 #[inline(always)]
 pub(in crate::ether_format) fn packet_value<'a>(
     number: usize,
-    packet: &CapturedPacket<'_>,
+    packet: &CapturedPacket<'a>,
     index: usize,
 ) -> Option<Value<'a>> {
     match index {
@@ -29,6 +30,11 @@ pub(in crate::ether_format) fn packet_value<'a>(
         3 => Some(Value::Number(packet.packet.len() as u64)),
         4 => Some(Value::Number(u64::from(packet.original_len))),
         5 => Some(interface_value(packet.interface)),
+        6 => Some(direction_value(packet.direction)),
+        7 => Some(text_value(packet.comment)),
+        8 => Some(interval_value(Interval::Minute, moment_if(packet.time))),
+        9 => Some(interval_value(Interval::Hour, moment_if(packet.time))),
+        10 => Some(interval_value(Interval::Day, moment_if(packet.time))),
         _ => None,
     }
 }
@@ -38,6 +44,34 @@ pub(in crate::ether_format) fn packet_value<'a>(
 fn interface_value<'a>(interface: Option<u32>) -> Value<'a> {
     match interface {
         Some(interface) => Value::Number(u64::from(interface)),
+        None => Value::Nothing,
+    }
+}
+
+/// The value of a direction.
+#[inline(always)]
+fn direction_value<'a>(direction: Option<Direction>) -> Value<'a> {
+    match direction {
+        Some(Direction::Inbound) => Value::Word("inbound"),
+        Some(Direction::Outbound) => Value::Word("outbound"),
+        None => Value::Nothing,
+    }
+}
+
+/// The value of a text.
+#[inline(always)]
+fn text_value<'a>(text: Option<&'a [u8]>) -> Value<'a> {
+    match text {
+        Some(text) => Value::Text(text),
+        None => Value::Nothing,
+    }
+}
+
+/// The value of an interval of a time.
+#[inline]
+fn interval_value<'a>(interval: Interval, moment: Option<Moment>) -> Value<'a> {
+    match moment {
+        Some(moment) => Value::Within(interval, moment),
         None => Value::Nothing,
     }
 }

@@ -1,17 +1,28 @@
+use Rattle.std.proofs.Common.{◌≡◌, ap, sym, ◌∙◌, rules}
+use Rattle.std.specs.Prelude.{Option}
+use Rattle.ether_fields.specs.declared.section.Section.{Section}
+use Rattle.ether_fields.specs.declared.section.Section.TheVariants as parts
 use Rattle.ether_pcap.specs.CaptureViews.{captured_packet_view}
-use Rattle.ether_output.proofs.OutputBufferLemmas.{Takes-same, Takes-then}
-use Rattle.ether_format.specs.Columns.{column_text, column_view, sections as sections_told}
-use Rattle.ether_format.proofs.CsvLemmas.{column_field, enclosed_text}
+use Rattle.ether_output.proofs.OutputBufferLemmas.{Takes-same}
+use Rattle.ether_format.specs.Columns.{column_view, sections as sections_told}
+use Rattle.ether_format.specs.Counted.{only_text}
+use Rattle.ether_format.specs.Csv.{csv_field, csv_text}
+use Rattle.ether_format.specs.Members.{Value, packet_columns}
+use Rattle.ether_format.specs.Values.{value_at}
+use Rattle.ether_format.proofs.CsvLemmas.{frame_field}
 use Rattle.ether_format.proofs.csv.write_field.Goals as goal
 
-pub returns : goal.returns
-returns g c moment told end accepted is tells =
-    let row = c.args.row.now in
-    let p = captured_packet_view row.packet.now in
-    let text = column_text (column_view c.args.column) (sections_told row.number p moment told end) in
-    let count = c.has_several-is_enclosed.ensures moment told end accepted is tells in
+pub returns-then-eq : goal.returns-then-eq
+returns-then-eq g c moment told end accepted is tells =
+    let p = captured_packet_view c.args.row.now.packet.now in
+    let number = c.args.row.now.number in
+    let same : c.args.column.section ≡ parts.Frame = search rules in
+    let value = c.packet_value.ensures moment is
+    ∙ ap (value_at (packet_columns number p moment)) c.from-index.ensures in
     Takes-same
-    (enclosed_text text c.has_several-is_enclosed.result _ count
-    (column_field row.number p moment told end c.args.column.section c.args.column.index))
-    (Takes-then c.write_quote_if.ensures
-    (Takes-then (c.write_column.ensures moment told end accepted is tells) c.write_quote_if-2.ensures))
+    (ap (λ (v : Option Value). csv_field (only_text v)) value
+    ∙ frame_field number p moment told end c.args.column.index
+    ∙ ap (λ (k : Section). csv_field
+    (csv_text (column_view (record { section = k; index = c.args.column.index }))
+    (sections_told number p moment told end))) (sym same))
+    c.write_only_field.ensures

@@ -1,12 +1,13 @@
 use Rattle.std.specs.Prelude.{[], ◌∷◌, codes, length}
 use Rattle.ether_format.specs.Columns.{columns_view}
-use Rattle.ether_format.specs.Csv.{csv_field}
+use Rattle.ether_format.specs.Csv.{csv_field, csv_text}
 use Rattle.ether_format.proofs.RowLemmas.{WritesColumns}
 use Rattle.ether_format.proofs.csv.write_record.Given as goal
 
 abbrev pub invariant-loop-others : goal.invariant-loop-others
 invariant-loop-others g l =
-    WritesColumns (codes ",") (13 ∷ 10 ∷ []) csv_field g.W.Sink.contents g.W.Sink.can_fail
+    WritesColumns (codes ",") (13 ∷ 10 ∷ []) (λ parts c. csv_field (csv_text c parts)) g.W.Sink.contents
+    g.W.Sink.can_fail
     (columns_view l.columns) l.row
     l.column l.others l.fn.out l.out
 

@@ -6,7 +6,7 @@ use Rattle.ether_content.specs.Content.{content_of}
 use Rattle.ether_output.proofs.OutputBufferLemmas.{Takes-same}
 use Rattle.ether_format.specs.declared.end.End.{End}
 use Rattle.ether_format.specs.Columns.{column_view}
-use Rattle.ether_format.specs.Members.{Value, packet_values}
+use Rattle.ether_format.specs.Members.{Value, packet_columns}
 use Rattle.ether_format.specs.Values.{column_on, end_shown, if_any, is_end_section, value_at}
 use Rattle.ether_format.proofs.OneText.{one_told}
 use Rattle.ether_format.proofs.RowLemmas.{end_only, frame_only, headers_only}
@@ -17,7 +17,8 @@ returns-then-eq g c moment told end accepted is tells =
     let p = captured_packet_view c.args.row.now.packet.now in
     let number = c.args.row.now.number in
     let same : c.args.column.section ≡ parts.Frame = search rules in
-    let value = c.packet_value.ensures moment is ∙ ap (value_at (packet_values number p moment)) c.from-index.ensures in
+    let value = c.packet_value.ensures moment is
+    ∙ ap (value_at (packet_columns number p moment)) c.from-index.ensures in
     Takes-same
     (ap (λ (v : Option Value). column_on true (if_any v)) value
     ∙ frame_only c.args.column.section c.args.column.index same number p moment told end)

@@ -1,13 +1,13 @@
 use Rattle.std.proofs.Common.{◌∷◌, ap, sym, map, ◌∙◌, arith}
 use Rattle.std.specs.Prelude.{codes}
-use Rattle.ether_format.specs.Columns.{column_view, columns_view}
+use Rattle.ether_format.specs.Columns.{column_text, column_view, columns_view}
 use Rattle.ether_format.proofs.RowLemmas.{columns_end, columns_next, columns_start}
 use Rattle.ether_format.proofs.ListLemmas.{first_others, none_of}
 use Rattle.ether_format.proofs.row.write_columns.Goals as goal
 
 pub loop-others-init : goal.loop-others-init
 loop-others-init g c =
-    columns_start (codes "\t") (codes "\n") (λ text. text) g.W.Sink.contents g.W.Sink.can_fail
+    columns_start (codes "\t") (codes "\n") (λ parts c. column_text c parts) g.W.Sink.contents g.W.Sink.can_fail
     (columns_view c.args.columns.now) c.args.row.now
     c.first-column.result c.others-others.result.now c.args.out.now
     (c.others-others.ensures ∙ ap (λ d. column_view d ∷ map column_view c.others-others.result.now)
@@ -15,7 +15,7 @@ loop-others-init g c =
 
 pub loop-others-preserved : goal.loop-others-preserved
 loop-others-preserved g c =
-    columns_next (codes "\t") (codes "\n") (λ text. text) g.W.Sink.contents g.W.Sink.can_fail
+    columns_next (codes "\t") (codes "\n") (λ parts c. column_text c parts) g.W.Sink.contents g.W.Sink.can_fail
     (columns_view c.args.columns.now) c.args.row.now
     c.loop-others.column _ c.loop-others.others.now _ c.args.out.now c.loop-others.out
     c.write_column.new.out
@@ -26,7 +26,7 @@ loop-others-preserved g c =
 pub returns-in-empty : goal.returns-in-empty
 returns-in-empty g c =
     let few = c.in-empty.len_below in
-    columns_end (codes "\t") (codes "\n") (λ text. text) g.W.Sink.contents g.W.Sink.can_fail
+    columns_end (codes "\t") (codes "\n") (λ parts c. column_text c parts) g.W.Sink.contents g.W.Sink.can_fail
     (columns_view c.args.columns.now) c.args.row.now
     c.loop-others.column c.loop-others.others.now c.args.out.now c.loop-others.out
     c.write_column.new.out

@@ -4,7 +4,7 @@ use crate::draw::Draw;
 use crate::text::{Text, WithText};
 use arrayvec::ArrayVec;
 use etherpeel::ether_fields::{Field, Kind, Section, name_of};
-use etherpeel::ether_format::{Columns, Format, nine_digits, split_at, write_packet};
+use etherpeel::ether_format::{Columns, Format, nine_digits, split_at, write_json_text, write_packet};
 use etherpeel::ether_output::{
     OutputBuffer, digit_pair, eight_digits, hex_type, source_of, write_decimal, write_number,
 };
@@ -107,6 +107,11 @@ fn names(draw: &mut Draw, text: &mut Text) -> fmt::Result {
 
 fn columns(name: &[u8], text: &mut Text) -> fmt::Result {
     text.add(&split_at(b',', name))?;
+    let mut written = Written::new();
+    let mut out = OutputBuffer::new(&mut written);
+    write_json_text(name, &mut out);
+    text.add(&out.flush())?;
+    text.add(&written)?;
     let Ok(name) = std::str::from_utf8(name) else {
         return Ok(());
     };
@@ -147,8 +152,5 @@ fn packets(draw: &mut Draw, name: &[u8], text: &mut Text) -> fmt::Result {
         }
     }
     text.add(&out.flush())?;
-    match std::str::from_utf8(written.as_slice()) {
-        Ok(lines) => text.add(&lines),
-        Err(_) => Err(fmt::Error),
-    }
+    text.add(&written)
 }

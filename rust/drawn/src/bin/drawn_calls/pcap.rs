@@ -159,6 +159,7 @@ fn described(
 
 fn enhanced(order: ByteOrder, packet: &EnhancedPacket<'_>, text: &mut Text) -> fmt::Result {
     text.add(&(&packet, &packet.padding_len(), &packet.fcs_len(order)))?;
+    text.add(&(&packet.direction(order), &packet.comment(order)))?;
     text.add(&(
         &packet.header_to_bytes(order),
         &packet.trailer_to_bytes(order),

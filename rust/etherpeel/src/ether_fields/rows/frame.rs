@@ -4,7 +4,7 @@ use crate::ether_fields::field::Field;
 use crate::ether_fields::kind::Kind;
 
 /// The fields of the section `frame`, in order.
-pub static FRAME: [Field; 6] = [
+pub static FRAME: [Field; 11] = [
     Field {
         name: "number",
         key: "{\"number\":",
@@ -16,6 +16,7 @@ pub static FRAME: [Field; 6] = [
         number: 0,
         symbol: "",
         is_member: true,
+        is_column: true,
     },
     Field {
         name: "time",
@@ -28,6 +29,7 @@ pub static FRAME: [Field; 6] = [
         number: 0,
         symbol: "",
         is_member: true,
+        is_column: true,
     },
     Field {
         name: "link",
@@ -40,6 +42,7 @@ pub static FRAME: [Field; 6] = [
         number: 0,
         symbol: "",
         is_member: true,
+        is_column: true,
     },
     Field {
         name: "captured",
@@ -52,6 +55,7 @@ pub static FRAME: [Field; 6] = [
         number: 0,
         symbol: "",
         is_member: true,
+        is_column: true,
     },
     Field {
         name: "original",
@@ -64,6 +68,7 @@ pub static FRAME: [Field; 6] = [
         number: 0,
         symbol: "",
         is_member: true,
+        is_column: true,
     },
     Field {
         name: "interface",
@@ -76,5 +81,71 @@ pub static FRAME: [Field; 6] = [
         number: 0,
         symbol: "",
         is_member: true,
+        is_column: true,
+    },
+    Field {
+        name: "direction",
+        key: ",\"direction\":",
+        column: "frame.direction",
+        title: "Direction",
+        abbreviation: "",
+        kind: Kind::Word,
+        extent: Extent::Computed,
+        number: 0,
+        symbol: "",
+        is_member: true,
+        is_column: true,
+    },
+    Field {
+        name: "comment",
+        key: ",\"comment\":",
+        column: "frame.comment",
+        title: "Comment",
+        abbreviation: "",
+        kind: Kind::Bytes,
+        extent: Extent::Computed,
+        number: 0,
+        symbol: "",
+        is_member: true,
+        is_column: true,
+    },
+    Field {
+        name: "minute",
+        key: ",\"minute\":",
+        column: "frame.minute",
+        title: "Minute",
+        abbreviation: "",
+        kind: Kind::Time,
+        extent: Extent::Computed,
+        number: 0,
+        symbol: "",
+        is_member: false,
+        is_column: true,
+    },
+    Field {
+        name: "hour",
+        key: ",\"hour\":",
+        column: "frame.hour",
+        title: "Hour",
+        abbreviation: "",
+        kind: Kind::Time,
+        extent: Extent::Computed,
+        number: 0,
+        symbol: "",
+        is_member: false,
+        is_column: true,
+    },
+    Field {
+        name: "day",
+        key: ",\"day\":",
+        column: "frame.day",
+        title: "Day",
+        abbreviation: "",
+        kind: Kind::Time,
+        extent: Extent::Computed,
+        number: 0,
+        symbol: "",
+        is_member: false,
+        is_column: true,
     },
 ];

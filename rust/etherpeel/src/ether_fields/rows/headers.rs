@@ -16,6 +16,7 @@ pub static HEADERS: [Field; 5] = [
         number: 0,
         symbol: "",
         is_member: true,
+        is_column: true,
     },
     Field {
         name: "start",
@@ -28,6 +29,7 @@ pub static HEADERS: [Field; 5] = [
         number: 0,
         symbol: "",
         is_member: true,
+        is_column: true,
     },
     Field {
         name: "end",
@@ -40,6 +42,7 @@ pub static HEADERS: [Field; 5] = [
         number: 0,
         symbol: "",
         is_member: true,
+        is_column: true,
     },
     Field {
         name: "payload_end",
@@ -52,6 +55,7 @@ pub static HEADERS: [Field; 5] = [
         number: 0,
         symbol: "",
         is_member: true,
+        is_column: true,
     },
     Field {
         name: "closed",
@@ -64,5 +68,6 @@ pub static HEADERS: [Field; 5] = [
         number: 0,
         symbol: "",
         is_member: true,
+        is_column: true,
     },
 ];

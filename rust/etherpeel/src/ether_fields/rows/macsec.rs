@@ -16,6 +16,7 @@ pub static MACSEC: [Field; 18] = [
         number: 0,
         symbol: "",
         is_member: true,
+        is_column: true,
     },
     Field {
         name: "start",
@@ -28,6 +29,7 @@ pub static MACSEC: [Field; 18] = [
         number: 0,
         symbol: "",
         is_member: true,
+        is_column: true,
     },
     Field {
         name: "end",
@@ -40,6 +42,7 @@ pub static MACSEC: [Field; 18] = [
         number: 0,
         symbol: "",
         is_member: true,
+        is_column: true,
     },
     Field {
         name: "payload_end",
@@ -52,6 +55,7 @@ pub static MACSEC: [Field; 18] = [
         number: 0,
         symbol: "",
         is_member: true,
+        is_column: true,
     },
     Field {
         name: "closed",
@@ -64,6 +68,7 @@ pub static MACSEC: [Field; 18] = [
         number: 0,
         symbol: "",
         is_member: true,
+        is_column: true,
     },
     Field {
         name: "payload",
@@ -76,6 +81,7 @@ pub static MACSEC: [Field; 18] = [
         number: 0,
         symbol: "",
         is_member: true,
+        is_column: true,
     },
     Field {
         name: "v",
@@ -88,6 +94,7 @@ pub static MACSEC: [Field; 18] = [
         number: 13,
         symbol: "MACSEC_V",
         is_member: false,
+        is_column: false,
     },
     Field {
         name: "es",
@@ -100,6 +107,7 @@ pub static MACSEC: [Field; 18] = [
         number: 14,
         symbol: "MACSEC_ES",
         is_member: true,
+        is_column: true,
     },
     Field {
         name: "sc",
@@ -112,6 +120,7 @@ pub static MACSEC: [Field; 18] = [
         number: 15,
         symbol: "MACSEC_SC",
         is_member: false,
+        is_column: false,
     },
     Field {
         name: "scb",
@@ -124,6 +133,7 @@ pub static MACSEC: [Field; 18] = [
         number: 16,
         symbol: "MACSEC_SCB",
         is_member: true,
+        is_column: true,
     },
     Field {
         name: "e",
@@ -136,6 +146,7 @@ pub static MACSEC: [Field; 18] = [
         number: 17,
         symbol: "MACSEC_E",
         is_member: true,
+        is_column: true,
     },
     Field {
         name: "c",
@@ -148,6 +159,7 @@ pub static MACSEC: [Field; 18] = [
         number: 18,
         symbol: "MACSEC_C",
         is_member: true,
+        is_column: true,
     },
     Field {
         name: "an",
@@ -160,6 +172,7 @@ pub static MACSEC: [Field; 18] = [
         number: 19,
         symbol: "MACSEC_AN",
         is_member: true,
+        is_column: true,
     },
     Field {
         name: "reserved",
@@ -172,6 +185,7 @@ pub static MACSEC: [Field; 18] = [
         number: 20,
         symbol: "MACSEC_RESERVED",
         is_member: false,
+        is_column: false,
     },
     Field {
         name: "sl",
@@ -184,6 +198,7 @@ pub static MACSEC: [Field; 18] = [
         number: 21,
         symbol: "MACSEC_SL",
         is_member: true,
+        is_column: true,
     },
     Field {
         name: "pn",
@@ -196,6 +211,7 @@ pub static MACSEC: [Field; 18] = [
         number: 22,
         symbol: "MACSEC_PN",
         is_member: true,
+        is_column: true,
     },
     Field {
         name: "sci",
@@ -208,6 +224,7 @@ pub static MACSEC: [Field; 18] = [
         number: 23,
         symbol: "MACSEC_SCI",
         is_member: true,
+        is_column: true,
     },
     Field {
         name: "type",
@@ -220,5 +237,6 @@ pub static MACSEC: [Field; 18] = [
         number: 24,
         symbol: "MACSEC_ETHER_TYPE",
         is_member: true,
+        is_column: true,
     },
 ];

@@ -16,6 +16,7 @@ pub static REST: [Field; 4] = [
         number: 0,
         symbol: "",
         is_member: true,
+        is_column: true,
     },
     Field {
         name: "end",
@@ -28,6 +29,7 @@ pub static REST: [Field; 4] = [
         number: 0,
         symbol: "",
         is_member: true,
+        is_column: true,
     },
     Field {
         name: "kind",
@@ -40,6 +42,7 @@ pub static REST: [Field; 4] = [
         number: 0,
         symbol: "",
         is_member: true,
+        is_column: true,
     },
     Field {
         name: "type",
@@ -52,5 +55,6 @@ pub static REST: [Field; 4] = [
         number: 0,
         symbol: "",
         is_member: true,
+        is_column: true,
     },
 ];

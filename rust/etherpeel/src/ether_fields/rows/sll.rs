@@ -16,6 +16,7 @@ pub static SLL: [Field; 10] = [
         number: 0,
         symbol: "",
         is_member: true,
+        is_column: true,
     },
     Field {
         name: "start",
@@ -28,6 +29,7 @@ pub static SLL: [Field; 10] = [
         number: 0,
         symbol: "",
         is_member: true,
+        is_column: true,
     },
     Field {
         name: "end",
@@ -40,6 +42,7 @@ pub static SLL: [Field; 10] = [
         number: 0,
         symbol: "",
         is_member: true,
+        is_column: true,
     },
     Field {
         name: "payload_end",
@@ -52,6 +55,7 @@ pub static SLL: [Field; 10] = [
         number: 0,
         symbol: "",
         is_member: true,
+        is_column: true,
     },
     Field {
         name: "closed",
@@ -64,6 +68,7 @@ pub static SLL: [Field; 10] = [
         number: 0,
         symbol: "",
         is_member: true,
+        is_column: true,
     },
     Field {
         name: "packet_type",
@@ -76,6 +81,7 @@ pub static SLL: [Field; 10] = [
         number: 4,
         symbol: "LINUX_SLL_PACKET_TYPE",
         is_member: true,
+        is_column: true,
     },
     Field {
         name: "hw_type",
@@ -88,6 +94,7 @@ pub static SLL: [Field; 10] = [
         number: 5,
         symbol: "LINUX_SLL_HARDWARE_TYPE",
         is_member: true,
+        is_column: true,
     },
     Field {
         name: "addr_len",
@@ -100,6 +107,7 @@ pub static SLL: [Field; 10] = [
         number: 6,
         symbol: "LINUX_SLL_ADDRESS_LEN",
         is_member: true,
+        is_column: true,
     },
     Field {
         name: "addr",
@@ -112,6 +120,7 @@ pub static SLL: [Field; 10] = [
         number: 7,
         symbol: "LINUX_SLL_ADDRESS",
         is_member: true,
+        is_column: true,
     },
     Field {
         name: "protocol",
@@ -124,5 +133,6 @@ pub static SLL: [Field; 10] = [
         number: 8,
         symbol: "LINUX_SLL_PROTOCOL",
         is_member: true,
+        is_column: true,
     },
 ];

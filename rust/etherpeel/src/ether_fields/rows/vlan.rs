@@ -16,6 +16,7 @@ pub static VLAN: [Field; 9] = [
         number: 0,
         symbol: "",
         is_member: true,
+        is_column: true,
     },
     Field {
         name: "start",
@@ -28,6 +29,7 @@ pub static VLAN: [Field; 9] = [
         number: 0,
         symbol: "",
         is_member: true,
+        is_column: true,
     },
     Field {
         name: "end",
@@ -40,6 +42,7 @@ pub static VLAN: [Field; 9] = [
         number: 0,
         symbol: "",
         is_member: true,
+        is_column: true,
     },
     Field {
         name: "payload_end",
@@ -52,6 +55,7 @@ pub static VLAN: [Field; 9] = [
         number: 0,
         symbol: "",
         is_member: true,
+        is_column: true,
     },
     Field {
         name: "closed",
@@ -64,6 +68,7 @@ pub static VLAN: [Field; 9] = [
         number: 0,
         symbol: "",
         is_member: true,
+        is_column: true,
     },
     Field {
         name: "pcp",
@@ -76,6 +81,7 @@ pub static VLAN: [Field; 9] = [
         number: 9,
         symbol: "VLAN_PCP",
         is_member: true,
+        is_column: true,
     },
     Field {
         name: "dei",
@@ -88,6 +94,7 @@ pub static VLAN: [Field; 9] = [
         number: 10,
         symbol: "VLAN_DEI",
         is_member: true,
+        is_column: true,
     },
     Field {
         name: "vid",
@@ -100,6 +107,7 @@ pub static VLAN: [Field; 9] = [
         number: 11,
         symbol: "VLAN_VID",
         is_member: true,
+        is_column: true,
     },
     Field {
         name: "type",
@@ -112,5 +120,6 @@ pub static VLAN: [Field; 9] = [
         number: 12,
         symbol: "VLAN_ETHER_TYPE",
         is_member: true,
+        is_column: true,
     },
 ];

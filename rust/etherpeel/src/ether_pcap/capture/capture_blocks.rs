@@ -107,6 +107,8 @@ fn simple_packet<'a, I: DescribedInterfaces>(
     Ok(CapturedPacket {
         time: None,
         interface: Some(0),
+        direction: None,
+        comment: None,
         original_len: packet.original_len,
         link_type: interface.link_type,
         snap_len: interface.snap_len,
@@ -133,6 +135,8 @@ fn enhanced_packet<'a, I: DescribedInterfaces>(
     Ok(CapturedPacket {
         time: interface.time(packet.time),
         interface: Some(packet.interface),
+        direction: packet.direction(byte_order),
+        comment: packet.comment(byte_order),
         original_len: packet.original_len,
         link_type: interface.link_type,
         snap_len: interface.snap_len,

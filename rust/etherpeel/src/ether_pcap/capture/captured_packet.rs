@@ -1,5 +1,5 @@
 //! A packet of a capture file of either format.
-use crate::ether_pcap::{LinkType, Timestamp};
+use crate::ether_pcap::{Direction, LinkType, Timestamp};
 
 /// A packet of a capture file of either format, and what the file says of it.
 #[derive(Clone, Copy, PartialEq, Eq, Debug)]
@@ -11,6 +11,10 @@ pub struct CapturedPacket<'a> {
     /// The number of the interface that captured the packet, counted from 0 in its section of a pcapng file. `None` in
     /// a classic file.
     pub interface: Option<u32>,
+    /// Whether the interface received the packet or sent it, if the packet's flags in a pcapng file say so.
+    pub direction: Option<Direction>,
+    /// The first comment on the packet in a pcapng file: a text that should be UTF-8, but may hold any byte.
+    pub comment: Option<&'a [u8]>,
     /// The length of the packet in bytes before it was cut.
     pub original_len: u32,
     /// What the packet begins with.

@@ -129,6 +129,8 @@ pub(in crate::ether_pcap) fn read_record<'a>(
     let packet = CapturedPacket {
         time: Some(time),
         interface: None,
+        direction: None,
+        comment: None,
         original_len: record.original_len,
         link_type: header.link_type,
         snap_len: header.snap_len,

@@ -1,8 +1,8 @@
 //! The body of an enhanced packet.
 
-use crate::ether_pcap::pcapng::pcapng_option::{bytes_from, u32_option};
+use crate::ether_pcap::pcapng::pcapng_option::{bytes_from, option_value, u32_option};
 use crate::ether_pcap::word_bytes::{four_words, len_word, padded_len, seven_words, word};
-use crate::ether_pcap::{BodyError, ByteOrder, PcapRecord, PcapngBlock};
+use crate::ether_pcap::{BodyError, ByteOrder, Direction, PcapRecord, PcapngBlock, PcapngOption};
 
 /// The code of the option that has a packet's flags: `epb_flags` of an enhanced packet, `pack_flags` of the obsolete
 /// packet block.
@@ -243,6 +243,84 @@ impl<'a> EnhancedPacket<'a> {
             0 => None,
             len => Some(len as u8),
         }
+    }
+
+    /// Whether the interface received the packet or sent it, if the packet's flags say so (bits 0 and 1 of the flags,
+    /// section 4.3.1).
+    ///
+    /// ```
+    /// use etherpeel::ether_pcap::{ByteOrder, Direction, EnhancedPacket};
+    ///
+    /// let packet = EnhancedPacket {
+    ///     interface: 0,
+    ///     time: 0,
+    ///     original_len: 0,
+    ///     packet: &[],
+    ///     options: &[0x00, 0x02, 0x00, 0x04, 0x00, 0x00, 0x00, 0x02],
+    /// };
+    /// assert_eq!(packet.direction(ByteOrder::BigEndian), Some(Direction::Outbound));
+    /// ```
+    ///
+    /// <details><summary>Contract</summary>
+    ///
+    /// ```text
+    /// ensures { (all : List OptionValue) → HasOptions (order_of byte_order) self.now.options.now all
+    ///     → option_map direction_view result
+    ///     ≡ direction_in_flags (number_of (order_of byte_order) 4 (value_of 2 all)) }
+    /// ```
+    ///
+    /// Words: [`OptionValue`](crate::definitions::ether_pcap#def.OptionValue),
+    /// [`HasOptions`](crate::definitions::ether_pcap#def.HasOptions),
+    /// [`order_of`](crate::definitions::ether_pcap#def.order_of),
+    /// [`direction_view`](crate::definitions::ether_pcap#def.direction_view),
+    /// [`direction_in_flags`](crate::definitions::ether_pcap#def.direction_in_flags),
+    /// [`number_of`](crate::definitions::ether_pcap#def.number_of),
+    /// [`value_of`](crate::definitions::ether_pcap#def.value_of). [Notation](crate::definitions::notation)
+    ///
+    /// </details>
+    #[must_use]
+    #[inline]
+    pub fn direction(&self, byte_order: ByteOrder) -> Option<Direction> {
+        let flags = u32_option(byte_order, self.options, FLAGS)?;
+        match flags % 4 {
+            1 => Some(Direction::Inbound),
+            2 => Some(Direction::Outbound),
+            _ => None,
+        }
+    }
+
+    /// The first comment on the packet: a text that should be UTF-8, but may hold any byte.
+    ///
+    /// ```
+    /// use etherpeel::ether_pcap::{ByteOrder, EnhancedPacket};
+    ///
+    /// let packet = EnhancedPacket {
+    ///     interface: 0,
+    ///     time: 0,
+    ///     original_len: 0,
+    ///     packet: &[],
+    ///     options: &[0x00, 0x01, 0x00, 0x02, b'o', b'k', 0x00, 0x00],
+    /// };
+    /// assert_eq!(packet.comment(ByteOrder::BigEndian), Some(b"ok".as_slice()));
+    /// ```
+    ///
+    /// <details><summary>Contract</summary>
+    ///
+    /// ```text
+    /// ensures { (all : List OptionValue) → HasOptions (order_of byte_order) self.now.options.now all
+    ///     → option_map (λ text. text.now) result ≡ value_of 1 all }
+    /// ```
+    ///
+    /// Words: [`OptionValue`](crate::definitions::ether_pcap#def.OptionValue),
+    /// [`HasOptions`](crate::definitions::ether_pcap#def.HasOptions),
+    /// [`order_of`](crate::definitions::ether_pcap#def.order_of),
+    /// [`value_of`](crate::definitions::ether_pcap#def.value_of). [Notation](crate::definitions::notation)
+    ///
+    /// </details>
+    #[must_use]
+    #[inline]
+    pub fn comment(&self, byte_order: ByteOrder) -> Option<&'a [u8]> {
+        option_value(byte_order, self.options, PcapngOption::COMMENT)
     }
 }
 

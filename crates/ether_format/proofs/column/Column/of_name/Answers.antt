@@ -1,7 +1,7 @@
 use Rattle.std.proofs.Common.{◌≡◌, List, ◌++◌, refl, sym, subst, ◌∙◌}
 use Rattle.std.specs.Prelude.{codes}
 use Rattle.std.specs.List.{IsAmong}
-use Rattle.ether_fields.specs.Fields.{member_names, section_rows}
+use Rattle.ether_fields.specs.Fields.{column_names, section_rows}
 use Rattle.ether_fields.specs.Rows.{Row}
 use Rattle.ether_format.specs.Columns.{name_at}
 use Rattle.ether_format.proofs.Names.{row_name}
@@ -38,9 +38,9 @@ returns-clause-some c =
       record {
         of = s;
         is_section = refl;
-        is_member =
-            subst (IsAmong (member_names rows)) (sym name)
-            (subst (λ (l : List Row). IsAmong (member_names l) c.in_ok-section.member.now) c.fields.ensures.rows
+        is_field =
+            subst (IsAmong (column_names rows)) (sym name)
+            (subst (λ (l : List Row). IsAmong (column_names l) c.in_ok-section.member.now) c.fields.ensures.rows
             found.1);
       },
       (λ k. c.in_ok-section-2.ensures.some k ++ (codes "." ++ name k)) ∙ sym split.parts,

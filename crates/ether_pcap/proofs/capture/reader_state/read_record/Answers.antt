@@ -13,6 +13,8 @@ returns-clause-record c =
     let e : record {
       time = Some (timestamp_view c.from_nanoseconds-time.result);
       interface = None;
+      direction = None;
+      comment = None;
       original_len = r.original_len;
       link_type = h.link_type;
       snap_len = h.snap_len;
@@ -23,6 +25,8 @@ returns-clause-record c =
     = λ i. record {
       time = Some (t i);
       interface = None;
+      direction = None;
+      comment = None;
       original_len = r.original_len;
       link_type = h.link_type;
       snap_len = h.snap_len;

@@ -4,16 +4,18 @@ use crate::text::Text;
 use etherpeel::ether_content::{Content, CookedHeader, EditedPacket, NoRoom, PacketEdit};
 use etherpeel::ether_pcap::{
     BlockError, BodyError, ByteOrder, CaptureError, CaptureFault, CaptureInterface, CaptureUnit,
-    CapturedPacket, CopiedUnit, CopyMode, EditedUnit, EnhancedPacket, FileHeader, FileHeaderError,
-    InterfaceDescription, LinkType, PcapRecord, PcapngBlock, RecordError, RecordFault,
-    SectionError, SectionHeader, SimplePacket, Timestamp, TimestampResolution,
+    CapturedPacket, CopiedUnit, CopyMode, Direction, EditedUnit, EnhancedPacket, FileHeader,
+    FileHeaderError, InterfaceDescription, LinkType, PcapRecord, PcapngBlock, RecordError,
+    RecordFault, SectionError, SectionHeader, SimplePacket, Timestamp, TimestampResolution,
 };
 
 fields! {
     CaptureFault { offset, error }
     CaptureInterface { link_type, snap_len, fcs_len, time_resolution, time_offset }
     CaptureUnit<'_> { len, packet }
-    CapturedPacket<'_> { time, interface, original_len, link_type, snap_len, fcs_len, packet }
+    CapturedPacket<'_> {
+        time, interface, direction, comment, original_len, link_type, snap_len, fcs_len, packet,
+    }
     Timestamp { seconds, nanoseconds }
     FileHeader { byte_order, resolution, snap_len, link_type, fcs_len }
     PcapRecord<'_> { seconds, fraction, original_len, packet }
@@ -30,6 +32,7 @@ fields! {
 
 variants! {
     ByteOrder { 0 BigEndian, 1 LittleEndian }
+    Direction { 0 Inbound, 1 Outbound }
     CaptureError {
         0 File(it), 1 Record(it), 2 Section(it), 3 Block(it), 4 Body(it), 5 NoInterface(it),
         6 TooManyInterfaces,

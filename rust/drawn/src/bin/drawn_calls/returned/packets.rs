@@ -25,7 +25,9 @@ fields! {
     FieldTest { field, first, count, relation, mask, len, value }
     Packet<'_> { start, frame, captured_len, original_len, time }
     PacketTime { seconds, nanoseconds }
-    Field { name, key, column, title, abbreviation, kind, extent, number, symbol, is_member }
+    Field {
+        name, key, column, title, abbreviation, kind, extent, number, symbol, is_member, is_column,
+    }
     FieldPlace { number, first, len }
     Sizes { hardware, protocol, has_sci, has_payload_type }
 }

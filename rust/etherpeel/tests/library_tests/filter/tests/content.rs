@@ -23,6 +23,8 @@ fn packet(
     CapturedPacket {
         time: None,
         interface: None,
+        direction: None,
+        comment: None,
         original_len,
         link_type: LinkType(link_type),
         snap_len: 262_144,

@@ -172,6 +172,8 @@ fn a_reader_takes_one_unit_at_a_time() -> Result<(), Fail> {
             nanoseconds: 2_000,
         }),
         interface: None,
+        direction: None,
+        comment: None,
         original_len: 1,
         link_type: LinkType::ETHERNET,
         snap_len: 65_535,

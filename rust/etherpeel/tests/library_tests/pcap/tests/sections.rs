@@ -100,6 +100,8 @@ fn packets_have_the_interface_of_their_own_section() -> Result<(), Fail> {
                 nanoseconds,
             }),
             interface: Some(interface),
+            direction: None,
+            comment: None,
             original_len,
             link_type,
             snap_len,

@@ -34,6 +34,8 @@ fn packet<'a>(
     Some(CapturedPacket {
         time,
         interface,
+        direction: None,
+        comment: None,
         original_len,
         link_type,
         snap_len,

@@ -1,0 +1,22 @@
+use Rattle.ether_format.specs.Spelling.{row_byte, row_escaped}
+use Rattle.ether_format.proofs.ListLemmas.{first_none, first_next, first_all}
+use Rattle.ether_format.proofs.text.write_row_text.Goals as goal
+
+pub loop-byte-init : goal.loop-byte-init
+loop-byte-init g c =
+    first_none g.W.Sink.contents g.W.Sink.can_fail row_byte c.args.text.now c.args.out.now
+
+pub loop-byte-preserved : goal.loop-byte-preserved
+loop-byte-preserved g c =
+    first_next g.W.Sink.contents g.W.Sink.can_fail row_byte c.args.text.now
+    c.loop-byte.byte-index 0 c.args.out.now
+    c.loop-byte.out
+    c.write_row_byte.new.out c.loop-byte-test.true c.loop-byte.invariant c.write_row_byte.ensures
+
+pub returns : goal.returns
+unfolding row_escaped
+returns g c =
+    first_all g.W.Sink.contents g.W.Sink.can_fail row_byte c.args.text.now
+    c.loop-byte.byte-index c.args.out.now
+    c.loop-byte.out
+    c.loop-byte-test.false c.loop-byte.invariant
