@@ -106,6 +106,12 @@ SUMS = [
      "eth.src\ta\t3\t180\neth.src\tb\t1\t14\ntotal\t\t4\t194\n", ""),
     ("as JSON", "vlan.vid\t5\t1\t60\nvlan.vid\t5\t2\t120\n", ["--format", "json"], 0,
      '{"column":"vlan.vid","value":"5","packets":3,"bytes":180}\n', ""),
+    ("of columns together as JSON", "a\tb\tc\tx\t\ty\t1\t2\na\tb\tc\tx\t\ty\t3\t4\na\tb\tx\ty\t5\t6\n", ["--format", "json"], 0,
+     '{"columns":["a","b","c"],"values":["x","","y"],"packets":4,"bytes":6}\n'
+     '{"columns":["a","b"],"values":["x","y"],"packets":5,"bytes":6}\n', ""),
+    ("keys that are no names and texts, as JSON", "a\tb\tc\t1\t2\na\t3\t4\n\t5\t6\n", ["--format", "json"], 0,
+     '{"column":"","value":"","packets":5,"bytes":6}\n{"column":"a","value":"","packets":3,"bytes":4}\n'
+     '{"columns":["a"],"values":["b","c"],"packets":1,"bytes":2}\n', ""),
     ("of columns together, where a text is empty", "a\tb\t\tx\t1\t2\na\tb\t\tx\t3\t4\na\tb\tx\t\t5\t6\n", [], 0,
      "a\tb\t\tx\t4\t6\na\tb\tx\t\t5\t6\n", ""),
     ("more than 64 bits hold", f"a\tb\t{MOST}\t{MOST - 1}\na\tb\t1\t1\n", [], 0, f"a\tb\t{MOST}\t{MOST}\n", ""),
@@ -130,8 +136,15 @@ COMMENTED = [
 
 def as_objects(text):
     """What JSON has for these lines."""
-    rows = [line.split("\t") for line in text.splitlines()]
-    return [{"column": column, "value": value, "packets": int(packets), "bytes": int(size)} for column, value, packets, size in rows]
+    return [as_object(*line.rsplit("\t", 2)) for line in text.splitlines()]
+
+
+def as_object(key, packets, size):
+    """.. for a line with this key: names, and as many texts."""
+    fields = key.split("\t")
+    names, texts = fields[:len(fields) // 2], fields[len(fields) // 2:]
+    members = {"columns": names, "values": texts} if len(names) > 1 else {"column": names[0], "value": texts[0]}
+    return {**members, "packets": int(packets), "bytes": int(size)}
 
 
 def objects(program, words, capture):
@@ -148,6 +161,8 @@ def examples(program):
             yield f"counts as JSON: {name}", partial(objects, program, words, capture), (as_objects(text), "", status)
     for name, capture, words, status, text in TOGETHER:
         yield f"counts of columns together: {name}", partial(run_apart, program, ["--stats", "--by", *words], capture), (text, "", status)
+        if "--format" not in words:
+            yield f"counts of columns together as JSON: {name}", partial(objects, program, ["--by", *words], capture), (as_objects(text), "", status)
     line = '{"column":"vlan.vid","value":"291","packets":1,"bytes":46}\n'
     found = partial(run_apart, program, ["--stats", "--format", "json", "--fields", "vlan.vid", "--select", "vlan 291"], CLASSIC)
     yield "counts as JSON, byte for byte", found, ('{"column":"total","value":"","packets":1,"bytes":46}\n' + line, "", 0)

@@ -30,7 +30,7 @@ from counts import examples as counts
 from formats import examples
 from programs import count, on_a_full_disk, run, run_apart, run_until_a_fault, without_memory
 
-USAGE = ("usage: ether_capture [[--plain | --format lines|brief|json | --fields COLUMNS [--format csv] [--header] | --stats [[--fields COLUMNS] [--format json] | --by COLUMNS]] [--limit N] [--status-on-fault yes|no] | --merge [--format json] | --write [-w COPY] [--cut-to-headers | --pop-vlan | --push-vlan TPID:ID | --set-vlan A:B]] "
+USAGE = ("usage: ether_capture [[--plain | --format lines|brief|json | --fields COLUMNS [--format csv] [--header] | --stats [--fields COLUMNS | --by COLUMNS] [--format json]] [--limit N] [--status-on-fault yes|no] | --merge [--format json] | --write [-w COPY] [--cut-to-headers | --pop-vlan | --push-vlan TPID:ID | --set-vlan A:B]] "
          "[--select EXPR [--undecided keep|drop]] [-c N] [--progress] [--jobs N] [-r FILE | FILE..]\n")
 
 
@@ -394,7 +394,6 @@ WRONG = [
     ("33 columns together", ["--stats", "--by", ",".join(["eth.src"] * 33)], expected("--by", ",".join(["eth.src"] * 33))),
     ("32 columns together", ["--stats", "--by", ",".join(["eth.src"] * 32)], CLASH),
     ("columns together, and others", ["--stats", "--by", "vlan.vid", "--fields", "eth.src"], CLASH),
-    ("columns together as JSON", ["--stats", "--by", "vlan.vid", "--format", "json"], CLASH),
     ("columns together for the eye", ["--stats", "--by", "vlan.vid", "--format", "brief"], CLASH),
     ("columns together and a copy", ["--stats", "--by", "vlan.vid", "--write"], CLASH),
     ("columns together twice", ["--stats", "--by", "vlan.vid", "--by", "eth.src"], TWICE),

@@ -4,6 +4,7 @@ pub mod OptionsLemmas
 pub mod SeveralFilesLemmas
 pub mod CountTableLemmas
 pub mod KeyCountLemmas
+pub mod KeyMemberLemmas
 pub mod FieldLemmas
 pub mod CountRowLemmas
 pub mod JointLemmas

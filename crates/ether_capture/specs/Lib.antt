@@ -7,6 +7,7 @@ pub mod Options
 pub mod Program
 pub mod SeveralFiles
 pub mod KeyCounts
+pub mod KeyMembers
 pub mod CountTable
 pub mod RowFields
 pub mod Waiting

@@ -252,9 +252,9 @@ abbrev pub is_json : Option FormatName → Bool
 is_json (Some names.Json) = true
 is_json name = false
 
--- columns are counted together, and others by themselves, or as JSON
+-- columns are counted together, and others by themselves
 abbrev pub clashes_with_by : AskedValue → Bool
-clashes_with_by a = is_some a.by && (is_some a.fields || is_json a.format)
+clashes_with_by a = is_some a.by && is_some a.fields
 
 -- columns are neither brief nor JSON; counts have no heading and are neither brief nor CSV, and their columns are 32 at
 -- most with the length of the packet

@@ -1,9 +1,9 @@
 -- The counts of rows as a text: a line for each key, in the order of their bytes.
-use Rattle.std.specs.Prelude.{◌≡◌, ℕ, List, [], ◌∷◌, ◌++◌, codes, decimal, map, Bool, true, false, Option, Some, None, ⊤}
+use Rattle.std.specs.Prelude.{◌≡◌, ℕ, ◌/◌, List, [], ◌∷◌, ◌++◌, codes, decimal, drop, length, map, nat_lt, take, Bool, true, false, Option, Some, None, ⊤, if◌then◌else◌}
 use Rattle.std.specs.Ordering.{nat_cmp}
 use Rattle.std.specs.Cmp.Lexicographic.{slice_cmp}
 use Rattle.std.specs.Io.KnownBytes.{Appends}
-use Rattle.std.specs.List.{flat_map}
+use Rattle.std.specs.List.{flat_map, join_by}
 use Rattle.std.specs.List.Sorted.{IsStrictlySortedBy}
 use Rattle.std.specs.Map.{lookup}
 use Rattle.std.specs.Str.{bytes_eq}
@@ -28,14 +28,26 @@ abbrev pub fields_line : StatisticsRow → List ℕ
 fields_line r =
     r.key ++ (codes "\t" ++ (decimal r.count.packets ++ (codes "\t" ++ (decimal r.count.bytes ++ codes "\n"))))
 
--- as four fields; or as an object of JSON, where a key is the name of a column and a text
+-- an array of strings (RFC 8259, 5 and 7)
+abbrev pub json_texts : List (List ℕ) → List ℕ
+json_texts texts = codes "[" ++ (join_by json_text (codes ",") texts ++ codes "]")
+
+-- The fields of a key as members of an object: the name of a column and a text. Of columns that are counted together,
+-- the first half are their names, and the second their texts.
+abbrev pub key_members : List (List ℕ) → List ℕ
+key_members fields =
+    if nat_lt 2 (length fields)
+    then codes "\"columns\":" ++ (json_texts (take (length fields / 2) fields)
+    ++ (codes ",\"values\":" ++ json_texts (drop (length fields / 2) fields)))
+    else codes "\"column\":" ++ (json_text (first_in fields)
+    ++ (codes ",\"value\":" ++ json_text (first_in (after_first fields))))
+
+-- as fields; or as an object of JSON
 abbrev pub statistics_line : StatisticsFormat → StatisticsRow → List ℕ
 statistics_line Text r = fields_line r
 statistics_line Json r =
-    codes "{\"column\":\"" ++ (first_in (row_fields r.key)
-    ++ (codes "\",\"value\":" ++ (json_text (first_in (after_first (row_fields r.key)))
-    ++ (codes ",\"packets\":"
-    ++ (decimal r.count.packets ++ (codes ",\"bytes\":" ++ (decimal r.count.bytes ++ codes "}\n")))))))
+    codes "{" ++ (key_members (row_fields r.key) ++ (codes ",\"packets\":"
+    ++ (decimal r.count.packets ++ (codes ",\"bytes\":" ++ (decimal r.count.bytes ++ codes "}\n")))))
 
 -- these are all keys of a table, each once, in the order of their bytes
 pub record AreRows (table : (key : List ℕ) → Option Count) (rows : List StatisticsRow) : Type 0 where

@@ -19,6 +19,7 @@ pub mod heap_memory;
 pub mod heap_text;
 pub mod interface_buffer;
 pub mod journal;
+pub mod key_members;
 pub mod laws;
 pub mod merge_run;
 pub mod merger;

@@ -251,11 +251,11 @@ impl<'a> Asked<'a> {
         (self.is_brief() || self.is_json()) && self.fields.is_some()
     }
 
-    /// Tests that columns are counted together, and also by themselves or as JSON.
+    /// Tests that columns are counted together, and others by themselves.
     fn clashes_with_by(&self) -> bool
         ensures { result ≡ clashes_with_by (asked_view self.now) }
     {
-        self.by.is_some() && (self.fields.is_some() || self.is_json())
+        self.by.is_some() && self.fields.is_some()
     }
 
     /// Tests that objects of JSON are asked for.

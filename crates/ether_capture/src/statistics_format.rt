@@ -1,12 +1,9 @@
 //! Writes the count of a key.
-ghost use Rattle.std.specs.Prelude.{◌≡◌};
-ghost use Rattle.ether_capture.specs.RowFields.{after_first, row_fields};
 ghost use Rattle.ether_output.specs.OutputBuffer.{Takes};
-ghost use Rattle.ether_capture.specs.Statistics.{fields_line, first_in, statistics_line};
+ghost use Rattle.ether_capture.specs.Statistics.{fields_line, statistics_line};
 
 use crate::count::Count;
-use crate::row_counts::first_field;
-use ether_format::write_json_text;
+use crate::key_members::write_key_members;
 use ether_output::{OutputBuffer, Sink, write_decimal};
 
 /// How packets are counted, and how their counts are written.
@@ -40,11 +37,8 @@ pub(crate) fn write_statistic<W: Sink>(
     match format {
         StatisticsFormat::Text => write_fields(key, count, out),
         StatisticsFormat::Json => {
-            let (column, text) = parts_of(key);
-            out.append(b"{\"column\":\"");
-            out.append(column);
-            out.append(b"\",\"value\":");
-            write_json_text(text, out);
+            out.append(b"{");
+            write_key_members(key, out);
             out.append(b",\"packets\":");
             write_decimal(out, count.packets as u64);
             out.append(b",\"bytes\":");
@@ -64,16 +58,4 @@ fn write_fields<W: Sink>(key: &[u8], count: Count, out: &mut OutputBuffer<'_, W>
     out.append(b"\t");
     write_decimal(out, count.bytes as u64);
     out.append(b"\n");
-}
-
-/// The column and the text of a key.
-fn parts_of(key: &[u8]) -> (&[u8], &[u8])
-    ensures column { result.0.now ≡ first_in (row_fields key.now) }
-    ensures text { result.1.now ≡ first_in (after_first (row_fields key.now)) }
-{
-    let (column, after) = first_field(key);
-    match after {
-        Some(rest) => (column, first_field(rest).0),
-        None => (column, b""),
-    }
 }

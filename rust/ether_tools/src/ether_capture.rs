@@ -16,6 +16,7 @@ pub mod heap_memory;
 pub mod heap_text;
 pub mod interface_buffer;
 pub mod journal;
+pub mod key_members;
 pub mod memory;
 pub mod merge_run;
 pub mod merger;

@@ -1,8 +1,7 @@
 //! Writes the count of a key.
 
 use crate::ether_capture::count::Count;
-use crate::ether_capture::row_counts::first_field;
-use etherpeel::ether_format::write_json_text;
+use crate::ether_capture::key_members::write_key_members;
 use etherpeel::ether_output::{OutputBuffer, Sink, write_decimal};
 
 /// How packets are counted, and how their counts are written.
@@ -33,11 +32,8 @@ pub(in crate::ether_capture) fn write_statistic<W: Sink>(
     match format {
         StatisticsFormat::Text => write_fields(key, count, out),
         StatisticsFormat::Json => {
-            let (column, text) = parts_of(key);
-            out.append(b"{\"column\":\"");
-            out.append(column);
-            out.append(b"\",\"value\":");
-            write_json_text(text, out);
+            out.append(b"{");
+            write_key_members(key, out);
             out.append(b",\"packets\":");
             write_decimal(out, count.packets as u64);
             out.append(b",\"bytes\":");
@@ -55,13 +51,4 @@ fn write_fields<W: Sink>(key: &[u8], count: Count, out: &mut OutputBuffer<'_, W>
     out.append(b"\t");
     write_decimal(out, count.bytes as u64);
     out.append(b"\n");
-}
-
-/// The column and the text of a key.
-fn parts_of(key: &[u8]) -> (&[u8], &[u8]) {
-    let (column, after) = first_field(key);
-    match after {
-        Some(rest) => (column, first_field(rest).0),
-        None => (column, b""),
-    }
 }

@@ -1,0 +1,72 @@
+//! Writes the key of a count as members of an object of JSON (RFC 8259).
+
+use crate::ether_capture::row_counts::first_field;
+use etherpeel::ether_format::write_json_text;
+use etherpeel::ether_output::{OutputBuffer, Sink};
+
+/// Writes the names of a key's columns and their texts as members of an object.
+pub(in crate::ether_capture) fn write_key_members<W: Sink>(key: &[u8], out: &mut OutputBuffer<'_, W>) {
+    let number = field_count(key);
+    if number > 2 {
+        out.append(b"\"columns\":");
+        let values = write_texts(number / 2, Some(key), out);
+        out.append(b",\"values\":");
+        write_texts(number, values, out);
+    } else {
+        write_column(key, out);
+    }
+}
+
+/// Writes the name of a column and its text as members.
+fn write_column<W: Sink>(key: &[u8], out: &mut OutputBuffer<'_, W>) {
+    let (column, after) = first_field(key);
+    out.append(b"\"column\":");
+    write_json_text(column, out);
+    out.append(b",\"value\":");
+    match after {
+        Some(rest) => write_json_text(first_field(rest).0, out),
+        None => write_json_text(b"", out),
+    }
+}
+
+/// How many fields a text has.
+fn field_count(text: &[u8]) -> usize {
+    let mut count = 0;
+    let mut rest = Some(text);
+    while let Some(left) = rest {
+        count += 1;
+        rest = first_field(left).1;
+    }
+    count
+}
+
+/// Writes `count` fields, or all if there are fewer, as an array of strings. Returns the text after these fields, if
+/// there is one.
+fn write_texts<'a, W: Sink>(
+    count: usize,
+    texts: Option<&'a [u8]>,
+    out: &mut OutputBuffer<'_, W>,
+) -> Option<&'a [u8]> {
+    let mut rest = texts;
+    let mut left = count;
+    let mut is_first = true;
+    out.append(b"[");
+    while left > 0 {
+        let Some(text) = rest else {
+            break;
+        };
+        let (field, later) = first_field(text);
+        out.append(comma_if(is_first));
+        write_json_text(field, out);
+        rest = later;
+        left -= 1;
+        is_first = false;
+    }
+    out.append(b"]");
+    rest
+}
+
+/// A comma, but nothing before the first of several.
+fn comma_if(is_first: bool) -> &'static [u8] {
+    if is_first { b"" } else { b"," }
+}
