@@ -1,7 +1,9 @@
-use Rattle.std.proofs.Common.{[], ◌∷◌}
-use Rattle.etherparse.specs.NumberText.{hex_number}
+use Rattle.std.proofs.Common.{◌/◌, ◌%◌, arith}
+use Rattle.ether_output.proofs.HexLemmas.{two_bytes, upper_pair}
 use Rattle.ether_output.proofs.hex_digits.hex_type.Goals as goal
 
 pub returns : goal.returns
-unfolding hex_number
-returns c = λ i. 48 ∷ 120 ∷ c.digit.ensures i ∷ c.digit-2.ensures i ∷ c.digit-3.ensures i ∷ c.digit-4.ensures i ∷ []
+returns c =
+    rw (c.from.ensures, c.from-2.ensures)
+    (rw (upper_pair (c.args.ether_type.0 / 256) (omega arith), upper_pair (c.args.ether_type.0 % 256) (omega arith))
+    (two_bytes c.args.ether_type.0 (omega arith)))
