@@ -27,12 +27,12 @@ pub(crate) fn write_json_front<W: Sink>(
 )
     ensures { WritesFront W.contents W.can_fail number (captured_packet_view packet.now) out.old out.new }
 {
-    write_members(&members::packet(number, packet), out);
+    write_eight(&members::packet(number, packet), out);
     out.append(b",\"headers\":[");
 }
 
 /// Writes a header as an object, after a comma unless it is the first.
-#[inline(always)]
+#[inline(never)]
 pub(crate) fn write_json_header<W: Sink>(
     is_first: bool,
     found: &Found<'_>,
@@ -42,7 +42,7 @@ pub(crate) fn write_json_header<W: Sink>(
         (comma_if is_first ++ json_object (told_members (found_told found.now))) out.new }
 {
     write_comma(is_first, out);
-    write_members(&members::placed(found.section, found.place), out);
+    write_five(&members::placed(found.section, found.place), out);
     write_own(&found.header, out);
     out.append(b"}");
 }
@@ -65,11 +65,11 @@ fn write_unit<W: Sink>(unit: &PeelUnit<'_>, out: &mut OutputBuffer<'_, W>)
     ensures { Takes W.contents W.can_fail out.old (flat_map keyed_text (unit_keyed unit.now)) out.new }
 {
     match unit {
-        PeelUnit::Ethernet2(slice) => write_members(&members::ethernet2(slice), out),
+        PeelUnit::Ethernet2(slice) => write_four(&members::ethernet2(slice), out),
         PeelUnit::LinuxSll(slice) => write_members(&members::linux_sll(slice), out),
-        PeelUnit::Vlan(slice) => write_members(&members::vlan(slice), out),
+        PeelUnit::Vlan(slice) => write_four(&members::vlan(slice), out),
         PeelUnit::Macsec(slice) => write_members(&members::macsec(&slice.header), out),
-        PeelUnit::Arp(slice) => write_members(&members::arp(slice), out),
+        PeelUnit::Arp(slice) => write_nine(&members::arp(slice), out),
     }
 }
 
@@ -78,11 +78,11 @@ pub(crate) fn write_json_end<W: Sink>(end: &End, out: &mut OutputBuffer<'_, W>)
     ensures { Takes W.contents W.can_fail out.old (json_end end.now) out.new }
 {
     match end {
-        End::Rest(start, end, kind) => write_last(
-            b"],\"rest\":",
-            &members::rest(*start, *end, kind),
-            out,
-        ),
+        End::Rest(start, end, kind) => {
+            out.append(b"],\"rest\":");
+            write_four(&members::rest(*start, *end, kind), out);
+            out.append(b"}}\n");
+        }
         End::Skipped(len) => write_last(b"],\"rest\":", &members::skipped(*len), out),
         End::Fault(start, closed, cause) => write_last(
             b"],\"fault\":",
@@ -119,7 +119,69 @@ fn write_members<W: Sink>(members: &[Member<'_>], out: &mut OutputBuffer<'_, W>)
     ensures { Takes W.contents W.can_fail out.old (flat_map keyed_text (map member_view members.now)) out.new }
 {
     for member in members {
-        out.append(member.key.as_bytes());
-        write_json_value(&member.value, out);
+        write_member(member, out);
     }
+}
+
+/// Writes a member with its name.
+#[inline(always)]
+fn write_member<W: Sink>(member: &Member<'_>, out: &mut OutputBuffer<'_, W>)
+    ensures { Takes W.contents W.can_fail out.old (keyed_text (member_view member.now)) out.new }
+{
+    out.append(member.key.as_bytes());
+    write_json_value(&member.value, out);
+}
+
+/// Writes four members. The compiler then knows each name, and which kind of value has it.
+#[inline(always)]
+fn write_four<W: Sink>(members: &[Member<'_>; 4], out: &mut OutputBuffer<'_, W>)
+    ensures { Takes W.contents W.can_fail out.old (flat_map keyed_text (map member_view members.now)) out.new }
+{
+    write_member(&members[0], out);
+    write_member(&members[1], out);
+    write_member(&members[2], out);
+    write_member(&members[3], out);
+}
+
+/// .. five members.
+#[inline(always)]
+fn write_five<W: Sink>(members: &[Member<'_>; 5], out: &mut OutputBuffer<'_, W>)
+    ensures { Takes W.contents W.can_fail out.old (flat_map keyed_text (map member_view members.now)) out.new }
+{
+    write_member(&members[0], out);
+    write_member(&members[1], out);
+    write_member(&members[2], out);
+    write_member(&members[3], out);
+    write_member(&members[4], out);
+}
+
+/// .. eight members.
+#[inline(always)]
+fn write_eight<W: Sink>(members: &[Member<'_>; 8], out: &mut OutputBuffer<'_, W>)
+    ensures { Takes W.contents W.can_fail out.old (flat_map keyed_text (map member_view members.now)) out.new }
+{
+    write_member(&members[0], out);
+    write_member(&members[1], out);
+    write_member(&members[2], out);
+    write_member(&members[3], out);
+    write_member(&members[4], out);
+    write_member(&members[5], out);
+    write_member(&members[6], out);
+    write_member(&members[7], out);
+}
+
+/// .. nine members.
+#[inline(always)]
+fn write_nine<W: Sink>(members: &[Member<'_>; 9], out: &mut OutputBuffer<'_, W>)
+    ensures { Takes W.contents W.can_fail out.old (flat_map keyed_text (map member_view members.now)) out.new }
+{
+    write_member(&members[0], out);
+    write_member(&members[1], out);
+    write_member(&members[2], out);
+    write_member(&members[3], out);
+    write_member(&members[4], out);
+    write_member(&members[5], out);
+    write_member(&members[6], out);
+    write_member(&members[7], out);
+    write_member(&members[8], out);
 }

@@ -35,6 +35,7 @@ pub(crate) struct RowPacket<'a> {
 /// Writes the row of a packet, and returns whether no header of the packet is refused.
 ///
 /// One walk gathers the first headers for all columns. Only a column that has values in later headers walks again.
+#[inline(never)]
 pub(crate) fn write_row<W: Sink>(
     columns: &Columns,
     limit: Option<usize>,
@@ -222,11 +223,11 @@ fn write_value<W: Sink>(
         out.new }
     ensures next { result ≡ still_first is_first (if_any (option_map value_view value.entry)) }
 {
-    let Some(value) = value else {
+    let Some(value) = &value else {
         return is_first;
     };
     write_comma(is_first, out);
-    write_column_value(&value, out);
+    write_column_value(value, out);
     false
 }
 
@@ -235,7 +236,7 @@ fn write_value<W: Sink>(
 fn write_only<W: Sink>(value: Option<Value<'_>>, out: &mut OutputBuffer<'_, W>)
     ensures { Takes W.contents W.can_fail out.old (column_on true (if_any (option_map value_view value.entry))) out.new }
 {
-    if let Some(value) = value {
-        write_column_value(&value, out);
+    if let Some(value) = &value {
+        write_column_value(value, out);
     }
 }

@@ -17,19 +17,19 @@ pub(in crate::ether_format) fn write_json_front<W: Sink>(
     packet: &CapturedPacket<'_>,
     out: &mut OutputBuffer<'_, W>,
 ) {
-    write_members(&members::packet(number, packet), out);
+    write_eight(&members::packet(number, packet), out);
     out.append(b",\"headers\":[");
 }
 
 /// Writes a header as an object, after a comma unless it is the first.
-#[inline(always)]
+#[inline(never)]
 pub(in crate::ether_format) fn write_json_header<W: Sink>(
     is_first: bool,
     found: &Found<'_>,
     out: &mut OutputBuffer<'_, W>,
 ) {
     write_comma(is_first, out);
-    write_members(&members::placed(found.section, found.place), out);
+    write_five(&members::placed(found.section, found.place), out);
     write_own(&found.header, out);
     out.append(b"}");
 }
@@ -48,11 +48,11 @@ fn write_own<W: Sink>(header: &FoundHeader<'_>, out: &mut OutputBuffer<'_, W>) {
 #[inline(always)]
 fn write_unit<W: Sink>(unit: &PeelUnit<'_>, out: &mut OutputBuffer<'_, W>) {
     match unit {
-        PeelUnit::Ethernet2(slice) => write_members(&members::ethernet2(slice), out),
+        PeelUnit::Ethernet2(slice) => write_four(&members::ethernet2(slice), out),
         PeelUnit::LinuxSll(slice) => write_members(&members::linux_sll(slice), out),
-        PeelUnit::Vlan(slice) => write_members(&members::vlan(slice), out),
+        PeelUnit::Vlan(slice) => write_four(&members::vlan(slice), out),
         PeelUnit::Macsec(slice) => write_members(&members::macsec(&slice.header), out),
-        PeelUnit::Arp(slice) => write_members(&members::arp(slice), out),
+        PeelUnit::Arp(slice) => write_nine(&members::arp(slice), out),
     }
 }
 
@@ -60,11 +60,11 @@ fn write_unit<W: Sink>(unit: &PeelUnit<'_>, out: &mut OutputBuffer<'_, W>) {
 #[inline]
 pub(in crate::ether_format) fn write_json_end<W: Sink>(end: &End, out: &mut OutputBuffer<'_, W>) {
     match end {
-        End::Rest(start, end, kind) => write_last(
-            b"],\"rest\":",
-            &members::rest(*start, *end, kind),
-            out,
-        ),
+        End::Rest(start, end, kind) => {
+            out.append(b"],\"rest\":");
+            write_four(&members::rest(*start, *end, kind), out);
+            out.append(b"}}\n");
+        }
         End::Skipped(len) => write_last(b"],\"rest\":", &members::skipped(*len), out),
         End::Fault(start, closed, cause) => write_last(
             b"],\"fault\":",
@@ -94,7 +94,59 @@ pub(in crate::ether_format) fn write_comma<W: Sink>(is_first: bool, out: &mut Ou
 #[inline(never)]
 fn write_members<W: Sink>(members: &[Member<'_>], out: &mut OutputBuffer<'_, W>) {
     for member in members {
-        out.append(member.key.as_bytes());
-        write_json_value(&member.value, out);
+        write_member(member, out);
     }
+}
+
+/// Writes a member with its name.
+#[inline(always)]
+fn write_member<W: Sink>(member: &Member<'_>, out: &mut OutputBuffer<'_, W>) {
+    out.append(member.key.as_bytes());
+    write_json_value(&member.value, out);
+}
+
+/// Writes four members. The compiler then knows each name, and which kind of value has it.
+#[inline(always)]
+fn write_four<W: Sink>(members: &[Member<'_>; 4], out: &mut OutputBuffer<'_, W>) {
+    write_member(&members[0], out);
+    write_member(&members[1], out);
+    write_member(&members[2], out);
+    write_member(&members[3], out);
+}
+
+/// .. five members.
+#[inline(always)]
+fn write_five<W: Sink>(members: &[Member<'_>; 5], out: &mut OutputBuffer<'_, W>) {
+    write_member(&members[0], out);
+    write_member(&members[1], out);
+    write_member(&members[2], out);
+    write_member(&members[3], out);
+    write_member(&members[4], out);
+}
+
+/// .. eight members.
+#[inline(always)]
+fn write_eight<W: Sink>(members: &[Member<'_>; 8], out: &mut OutputBuffer<'_, W>) {
+    write_member(&members[0], out);
+    write_member(&members[1], out);
+    write_member(&members[2], out);
+    write_member(&members[3], out);
+    write_member(&members[4], out);
+    write_member(&members[5], out);
+    write_member(&members[6], out);
+    write_member(&members[7], out);
+}
+
+/// .. nine members.
+#[inline(always)]
+fn write_nine<W: Sink>(members: &[Member<'_>; 9], out: &mut OutputBuffer<'_, W>) {
+    write_member(&members[0], out);
+    write_member(&members[1], out);
+    write_member(&members[2], out);
+    write_member(&members[3], out);
+    write_member(&members[4], out);
+    write_member(&members[5], out);
+    write_member(&members[6], out);
+    write_member(&members[7], out);
+    write_member(&members[8], out);
 }

@@ -26,7 +26,7 @@ pub(in crate::ether_format) struct RowPacket<'a> {
 /// Writes the row of a packet, and returns whether no header of the packet is refused.
 ///
 /// One walk gathers the first headers for all columns. Only a column that has values in later headers walks again.
-#[inline]
+#[inline(never)]
 pub(in crate::ether_format) fn write_row<W: Sink>(
     columns: &Columns,
     limit: Option<usize>,
@@ -183,18 +183,18 @@ fn write_value<W: Sink>(
     value: Option<Value<'_>>,
     out: &mut OutputBuffer<'_, W>,
 ) -> bool {
-    let Some(value) = value else {
+    let Some(value) = &value else {
         return is_first;
     };
     write_comma(is_first, out);
-    write_column_value(&value, out);
+    write_column_value(value, out);
     false
 }
 
 /// Writes the only value of a column, if there is one.
 #[inline(always)]
 fn write_only<W: Sink>(value: Option<Value<'_>>, out: &mut OutputBuffer<'_, W>) {
-    if let Some(value) = value {
-        write_column_value(&value, out);
+    if let Some(value) = &value {
+        write_column_value(value, out);
     }
 }

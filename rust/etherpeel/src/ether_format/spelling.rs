@@ -34,7 +34,7 @@ pub(in crate::ether_format) fn write_column_value<W: Sink>(value: &Value<'_>, ou
     match value {
         Value::Nothing => {}
         Value::Number(number) => write_decimal(out, *number),
-        Value::Protocol(number) => out.append(&hex_type(EtherType(*number))),
+        Value::Protocol(number) => out.append_array(hex_type(EtherType(*number))),
         Value::Flag(holds) => out.append(flag_text(*holds).as_bytes()),
         Value::Mac(address) => out.append_array(mac_text(*address)),
         Value::Four(bytes) => write_colons(bytes, out),

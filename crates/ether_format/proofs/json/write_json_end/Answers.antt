@@ -4,7 +4,7 @@ use Rattle.ether_format.specs.Members.{Nothing, rest_values}
 use Rattle.ether_format.specs.Told.{fault_values, kind_value, kind_word}
 use Rattle.std.specs.Prelude.{codes}
 use Rattle.std.specs.List.{flat_map}
-use Rattle.ether_output.proofs.OutputBufferLemmas.{Takes-same}
+use Rattle.ether_output.proofs.OutputBufferLemmas.{Takes-then, Takes-same}
 use Rattle.ether_format.specs.Json.{json_end}
 use Rattle.ether_format.specs.Values.{Keyed, keyed_text}
 use Rattle.ether_format.proofs.JsonLemmas.{last_text}
@@ -20,7 +20,7 @@ returns-in-Rest g c =
     ∙ last_text (codes "],\"rest\":") rest_rows
     (rest_values c.in-Rest.start c.in-Rest.end (kind_word c.in-Rest.kind) (kind_value c.in-Rest.kind)) refl
     ∙ ap json_end (sym c.in-Rest.is))
-    c.write_last.ensures
+    (Takes-then c.append.ensures (Takes-then c.write_four.ensures c.append-in-Rest.ensures))
 
 pub returns-in-Skipped : goal.returns-in-Skipped
 returns-in-Skipped g c =
@@ -28,7 +28,7 @@ returns-in-Skipped g c =
     (ap (written (codes "],\"rest\":")) c.skipped.ensures
     ∙ last_text (codes "],\"rest\":") rest_rows (rest_values 0 c.in-Skipped.len (codes "skipped") Nothing) refl
     ∙ ap json_end (sym c.in-Skipped.is))
-    c.write_last-in-Skipped.ensures
+    c.write_last.ensures
 
 pub returns-in-Fault : goal.returns-in-Fault
 returns-in-Fault g c =

@@ -8,6 +8,6 @@ use Rattle.ether_format.proofs.json.write_json_header.Goals as goal
 pub returns : goal.returns
 returns g c =
     let f = c.args.found.now in
-    let placed = Takes-same (ap (flat_map keyed_text) c.placed.ensures) c.write_members.ensures in
+    let placed = Takes-same (ap (flat_map keyed_text) c.placed.ensures) c.write_five.ensures in
     Takes-same (ap (λ l. comma_if c.args.is_first ++ l) (found_object f f.own))
     (Takes-then c.write_comma.ensures (Takes-then placed (Takes-then c.write_own.ensures c.append.ensures)))
