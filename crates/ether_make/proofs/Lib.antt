@@ -1,0 +1,6 @@
+pub mod BitLemmas
+pub mod TextLemmas
+pub mod KeyLemmas
+pub mod FrameLemmas
+pub mod LineLemmas
+pub mod CaptureLemmas

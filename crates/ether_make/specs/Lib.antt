@@ -1,0 +1,13 @@
+pub mod Bits
+pub mod Refusals
+pub mod Texts
+pub mod Objects
+pub mod FieldBits
+pub mod Sizes
+pub mod Headers
+pub mod Frames
+pub mod Lines
+pub mod LineViews
+pub mod Captures
+pub mod Program
+pub mod Messages

@@ -1,0 +1,43 @@
+-- What is returned for a line as its meaning.
+use Rattle.std.specs.Prelude.{◌≡◌, ℕ, List, Ok, Err, Result, Vec, Option, Some, None, IsUtf8, string_bytes}
+use Rattle.std.specs.declared.alloc.Global.{Global}
+use Rattle.serde_json.specs.Read.{read}
+use Rattle.ether_make.specs.Lines.{LineRefusal, LineMeans, LinesMean}
+use Rattle.ether_make.specs.Lines as lines
+use Rattle.ether_make.specs.Refusals.{RefusalValue, refused}
+use Rattle.ether_make.specs.declared.lines.LineFault.{LineFault}
+use Rattle.ether_make.specs.declared.lines.LineFault.TheVariants.{NotJson, Refused, TooLong, Memory}
+
+-- the meaning that a fault tells, unless memory is short
+abbrev pub fault_view : LineFault → Option LineRefusal
+fault_view NotJson = Some lines.NotJson
+fault_view (Refused header member reason) = Some (lines.Object (refused header (string_bytes member) reason))
+fault_view TooLong = Some lines.TooLong
+fault_view Memory = None
+
+abbrev pub IfTold : (LineRefusal → Type 0) → Option LineRefusal → Type 0
+IfTold claim None = Unit {0}
+IfTold claim (Some r) = claim r
+
+-- a text that is no JSON, unless memory is short
+abbrev pub IsNotJson : (text : List ℕ) → LineFault → Type 0
+IsNotJson text NotJson = IsUtf8 text → read text ≡ None
+IsNotJson text Memory = Unit {0}
+IsNotJson text fault = ⊥
+
+abbrev pub IsOwned : RefusalValue → LineFault → Type 0
+IsOwned r fault = IfTold (λ told. told ≡ lines.Object r) (fault_view fault)
+
+-- what is returned for a meaning
+abbrev pub TellsLine : Result (List ℕ) LineRefusal → Result (Vec ℕ Global) LineFault → Type 0
+TellsLine meaning (Ok frame) = meaning ≡ Ok frame.items
+TellsLine meaning (Err fault) = IfTold (λ told. meaning ≡ Err told) (fault_view fault)
+
+-- what is returned for a line
+abbrev pub LineOf : (text : List ℕ) → Result (Vec ℕ Global) LineFault → Type 0
+LineOf text (Ok frame) = LineMeans text (Ok frame.items)
+LineOf text (Err fault) = IfTold (λ told. LineMeans text (Err told)) (fault_view fault)
+
+-- lines mean these frames before the line with this number
+abbrev pub StopsAt : (number : ℕ) → (lines frames : List (List ℕ)) → (at : ℕ) → LineFault → Type 0
+StopsAt number ls frames at fault = IfTold (λ told. LinesMean number ls frames (Some (at, told))) (fault_view fault)

@@ -1,0 +1,19 @@
+-- What messages say of a refusal.
+use Rattle.std.specs.Prelude.{ℕ, List, codes}
+use Rattle.ether_make.specs.declared.refusal.Reason.{Reason}
+use Rattle.ether_make.specs.declared.refusal.Reason.TheVariants.{Unknown, Missing, NotAnObject, NotAnArray, NotANumber, NotAText, NotBytes, NotAHeader, NotALink, TooBig, OtherLength, Absent}
+
+-- after the member's name
+abbrev pub reason_text : Reason → List ℕ
+reason_text Unknown = codes "is no member of this object"
+reason_text Missing = codes "is missing"
+reason_text NotAnObject = codes "is no object"
+reason_text NotAnArray = codes "is no array"
+reason_text NotANumber = codes "is no number from 0 on"
+reason_text NotAText = codes "is no text"
+reason_text NotBytes = codes "spells no bytes"
+reason_text NotAHeader = codes "names no header that is made"
+reason_text NotALink = codes "names a header that begins no frame"
+reason_text TooBig = codes "has more bits than the field"
+reason_text OtherLength = codes "has another number of bytes than the field"
+reason_text Absent = codes "is a field that this header does not have"

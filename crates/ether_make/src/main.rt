@@ -1,0 +1,78 @@
+//! Makes frames from objects of JSON, one in each line of standard input, and writes them as a capture to standard
+//! output.
+//!
+//! `main` calls [`program::make_capture`] on all that it reads. A message why no capture is made goes to standard
+//! error.
+#![tactic(auto)]
+
+pub mod bits;
+pub mod capture;
+pub mod field_bits;
+pub mod frame;
+pub mod header;
+pub mod lines;
+pub mod objects;
+pub mod program;
+pub mod refusal;
+pub mod sizes;
+pub mod texts;
+
+use std::env;
+use std::io::{Read, Write};
+use std::process::ExitCode;
+
+/// What `--help` prints.
+const HELP: &str = "\
+Usage: ether_make < LINES > CAPTURE
+
+Makes frames. Each line of standard input is a JSON object with the headers of a
+frame, as ether_capture --format json prints it, or shorter:
+
+    {\"headers\":[{\"header\":\"eth\"},{\"header\":\"arp\",\"tpa\":\"10.0.0.2\"}]}
+
+A field that is missing has its usual value. The bytes after the headers are
+the hexadecimal digits of \"rest\":{\"bytes\":\"..\"}.
+
+Exit status: 0, or 2 if the words are wrong, 3 if a line means no frame, 4 if
+standard input or output fails, 5 if there is no memory.
+";
+
+/// The program on the standard streams.
+fn main(rt: HostRuntime) -> ExitCode {
+    let Ok(args) = env::args(&rt) else {
+        return ExitCode::from(4);
+    };
+    let mut words = args.skip(1);
+    if let Some(word) = words.next() {
+        if word.as_str() == "--help" {
+            let told = print!(rt; "{HELP}");
+            return ExitCode::from(if told.is_ok() { 0 } else { 4 });
+        }
+        let _ = eprintln!(rt; "ether_make: this word is not known: {word}");
+        return ExitCode::from(2);
+    }
+    let mut text = Vec::new(rt.alloc());
+    if let Err(error) = rt.reader().read_to_end(&mut text) {
+        let _ = eprintln!(rt; "ether_make: standard input can't be read: {error}");
+        return ExitCode::from(4);
+    }
+    match program::make_capture(rt.alloc(), &text) {
+        Ok(bytes) => write_all(rt, &bytes),
+        Err(stop) => {
+            let _ = eprintln!(rt; "ether_make: {stop}");
+            ExitCode::from(program::status_of(&stop))
+        }
+    }
+}
+
+/// Writes a capture to standard output.
+fn write_all(rt: HostRuntime, bytes: &[u8]) -> ExitCode {
+    let mut output = rt.stdout();
+    match output.write_all(bytes) {
+        Ok(()) => ExitCode::from(0),
+        Err(error) => {
+            let _ = eprintln!(rt; "ether_make: standard output can't be written: {error}");
+            ExitCode::from(4)
+        }
+    }
+}
