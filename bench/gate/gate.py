@@ -32,6 +32,7 @@ COMMANDS = {
     "rust": [sys.executable, "rust/test.py"],
     "crates": ["rt", "ci"],
     "tool": [sys.executable, "tests/ether_tool.py", "crates/ether_tool/out/ether_tool"],
+    "frames": [sys.executable, "tests/ether_make.py", "crates/ether_make/out/ether_make"],
     "captures": [sys.executable, "tests/ether_capture.py", "crates/ether_capture/out/ether_capture"],
     "other programs": [sys.executable, "tests/other_programs.py", "crates/ether_capture/out/ether_capture"],
     "examples": [sys.executable, "tests/examples.py", *(f"crates/{name}/out/{name}" for name in ("example_switch", "example_vlan_rewriter"))],

@@ -61,7 +61,8 @@ bits-done xs left n h = let e : left ≡ zero = omega arith in rw (e, bits-zero 
 
 pub packed-done : (done : List ℕ) (xs : List Bool) (at : ℕ) → length xs < at + 8 → done ++ packed (drop at xs) ≡ done
 packed-done done xs at h =
-    let few : length (drop at xs) < 8 = simp length-drop (omega arith) in rw (packed-end (drop at xs) few) (append-nil done)
+    let few : length (drop at xs) < 8 = simp length-drop (omega arith) in rw (packed-end (drop at xs) few)
+    (append-nil done)
 
 pub bit-far : (n place : ℕ) → n < 2 ^ 64 → 64 ≤ place → nat_eq (n / 2 ^ place % 2) 1 ≡ false
 bit-far n place small far =

@@ -22,7 +22,8 @@ pub record UnderWay (frames later : List (List ℕ)) (bytes : List ℕ) : Type 0
   pub writes : (others : List ℕ) → WritesRecords LittleEndian others (map record_of later)
       → WritesRecords LittleEndian (records ++ others) (map record_of frames)
 
-pub under_way-begin : (frames : List (List ℕ)) (header : List ℕ) → length header ≡ 24 → WritesFileHeader header header_of_capture
+pub under_way-begin : (frames : List (List ℕ)) (header : List ℕ) → length header ≡ 24
+    → WritesFileHeader header header_of_capture
     → AllFit frames → UnderWay frames frames header
 under_way-begin frames header len writes fit = record {
   header = header;
@@ -37,7 +38,8 @@ under_way-begin frames header len writes fit = record {
 regroup : (a header frame others : List ℕ) → a ++ ((header ++ frame) ++ others) ≡ (a ++ (header ++ frame)) ++ others
 regroup a header frame others = sym (append_assoc a (header ++ frame) others)
 
-pub under_way-more : (frames later : List (List ℕ)) (frame before after : List ℕ) → UnderWay frames (frame ∷ later) before
+pub under_way-more : (frames later : List (List ℕ)) (frame before after : List ℕ)
+    → UnderWay frames (frame ∷ later) before
     → (length frame ≤ max_captured_len → PushesRecord frame before after) → UnderWay frames later after
 under_way-more frames later frame before after u pushes =
     let p = pushes u.fit.0 in
@@ -46,7 +48,8 @@ under_way-more frames later frame before after u pushes =
       records = u.records ++ (p.header ++ frame);
       header_len = u.header_len;
       writes_header = u.writes_header;
-      whole = p.whole ∙ ap (λ b. b ++ (p.header ++ frame)) u.whole ∙ append_assoc u.header u.records (p.header ++ frame);
+      whole = p.whole ∙ ap (λ b. b ++ (p.header ++ frame)) u.whole
+          ∙ append_assoc u.header u.records (p.header ++ frame);
       fit = u.fit.1;
       writes = λ others h.
           subst (λ (bs : List ℕ). WritesRecords LittleEndian bs (map record_of frames))
@@ -62,7 +65,8 @@ under_way-end frames bytes u = record {
   header_len = u.header_len;
   writes_header = u.writes_header;
   writes_records =
-      subst (λ (bs : List ℕ). WritesRecords LittleEndian bs (map record_of frames)) (append-nil u.records) (u.writes [] none);
+      subst (λ (bs : List ℕ). WritesRecords LittleEndian bs (map record_of frames)) (append-nil u.records)
+      (u.writes [] none);
   whole = u.whole;
 }
 
@@ -72,7 +76,8 @@ abbrev pub FitsIfOk : Result (List ℕ) LineRefusal → Type 0
 FitsIfOk (Ok bytes) = length bytes ≤ max_captured_len
 FitsIfOk (Err r) = Unit {0}
 
-sized-at : (bytes : List ℕ) (b : Bool) → nat_lt longest (length bytes) ≡ b → FitsIfOk (if b then Err TooLong else Ok bytes)
+sized-at : (bytes : List ℕ) (b : Bool) → nat_lt longest (length bytes) ≡ b
+    → FitsIfOk (if b then Err TooLong else Ok bytes)
 sized-at bytes true e = tt
 sized-at bytes false e = ltb-false longest (length bytes) e
 
@@ -84,7 +89,8 @@ line-fits : (text : List ℕ) (m : Result (List ℕ) LineRefusal) → LineMeans 
 line-fits text m (object d json) = sized-fits (frame_bytes d)
 line-fits text m (not_json h) = tt
 
-pub lines-fit : (number : ℕ) (ls fs : List (List ℕ)) (stop : Option (ℕ × LineRefusal)) → LinesMean number ls fs stop → AllFit fs
+pub lines-fit : (number : ℕ) (ls fs : List (List ℕ)) (stop : Option (ℕ × LineRefusal))
+    → LinesMean number ls fs stop → AllFit fs
 lines-fit number ls fs stop (meant.none n) = tt
 lines-fit number ls fs stop (meant.empty n lines frames s h) = lines-fit (n + 1) lines frames s h
 lines-fit number ls fs stop (meant.frame n line bytes lines frames s some means h) =
@@ -108,7 +114,9 @@ under_way-next fs i f before after h e u pushes =
     (subst (λ (later : List (List ℕ)). UnderWay (map (λ v. v.items) fs) later before) (items_more fs i f h e) u) pushes
 
 pub under_way-done : (fs : List (Vec ℕ Global)) (i : ℕ) (bytes : List ℕ) → length fs ≤ i
-    → UnderWay (map (λ v. v.items) fs) (map (λ v. v.items) (drop i fs)) bytes → IsCaptureOf (map (λ v. v.items) fs) bytes
+    → UnderWay (map (λ v. v.items) fs) (map (λ v. v.items) (drop i fs)) bytes
+    → IsCaptureOf (map (λ v. v.items) fs) bytes
 under_way-done fs i bytes h u =
     under_way-end (map (λ v. v.items) fs) bytes
-    (subst (λ (vs : List (Vec ℕ Global)). UnderWay (map (λ v. v.items) fs) (map (λ v. v.items) vs) bytes) (drop_all i fs h) u)
+    (subst (λ (vs : List (Vec ℕ Global)). UnderWay (map (λ v. v.items) fs) (map (λ v. v.items) vs) bytes)
+    (drop_all i fs h) u)

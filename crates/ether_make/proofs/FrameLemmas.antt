@@ -12,5 +12,6 @@ listed-items [] = refl
 listed-items (d ∷ ds) = ap (λ more. d ∷ more) (listed-items ds)
 
 -- an array of values means the headers of their objects
-pub front-array : (d : Data) (vs : List Value) → Some (items_view vs) ≡ as_array d → front (Some d) ≡ front_of (map view vs)
+pub front-array : (d : Data) (vs : List Value) → Some (items_view vs) ≡ as_array d
+    → front (Some d) ≡ front_of (map view vs)
 front-array d vs e = ap front_in (sym e) ∙ ap front_of (listed-items (map view vs))

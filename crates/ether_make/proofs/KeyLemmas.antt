@@ -15,7 +15,8 @@ pub unknown-of_keys : (known : List (List ℕ)) (es : List (String Global × Val
     → unknown_in known (members_view es) ≡ unknown_key known (keys_of es)
 unknown-of_keys known [] = refl
 unknown-of_keys known (e ∷ es) =
-    ap (λ later. if is_among known (string_bytes e.0) then later else Some (string_bytes e.0)) (unknown-of_keys known es)
+    ap (λ later. if is_among known (string_bytes e.0) then later else Some (string_bytes e.0))
+    (unknown-of_keys known es)
 
 or-assoc : (a b c : Bool) → (a || (b || c)) ≡ ((a || b) || c)
 or-assoc true b c = refl
@@ -23,7 +24,8 @@ or-assoc false b c = refl
 
 pub among-append : (xs ys : List (List ℕ)) (k : List ℕ) → is_among (xs ++ ys) k ≡ (is_among xs k || is_among ys k)
 among-append [] ys k = refl
-among-append (x ∷ xs) ys k = ap (λ b. bytes_eq x k || b) (among-append xs ys k) ∙ or-assoc (bytes_eq x k) (is_among xs k) (is_among ys k)
+among-append (x ∷ xs) ys k = ap (λ b. bytes_eq x k || b) (among-append xs ys k)
+    ∙ or-assoc (bytes_eq x k) (is_among xs k) (is_among ys k)
 
 pub key-known : (known : List (List ℕ)) (k : String Global) (from later : List (String Global)) → from ≡ k ∷ later
     → is_among known (string_bytes k) ≡ true → unknown_key known from ≡ unknown_key known later

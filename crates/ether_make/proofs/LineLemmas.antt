@@ -12,11 +12,13 @@ use Rattle.ether_make.specs.declared.lines.LineFault.TheVariants as faults
 told_object : (text : List ℕ) (d : Data) → IsJson text d → (told : Option LineRefusal)
     → IfTold (λ r. sized (frame_bytes d) ≡ Err r) told → IfTold (λ r. LineMeans text (Err r)) told
 told_object text d json None h = tt
-told_object text d json (Some r) h = subst (λ (m : Result (List ℕ) LineRefusal). LineMeans text m) h (meant.object d json)
+told_object text d json (Some r) h = subst (λ (m : Result (List ℕ) LineRefusal). LineMeans text m) h
+    (meant.object d json)
 
 pub line-object : (text : List ℕ) (d : Data) → IsJson text d → (r : Result (Vec ℕ Global) LineFault)
     → TellsLine (sized (frame_bytes d)) r → LineOf text r
-line-object text d json (Ok frame) h = subst (λ (m : Result (List ℕ) LineRefusal). LineMeans text m) h (meant.object d json)
+line-object text d json (Ok frame) h = subst (λ (m : Result (List ℕ) LineRefusal). LineMeans text m) h
+    (meant.object d json)
 line-object text d json (Err fault) h = told_object text d json (fault_view fault) h
 
 pub line-not_json : (text : List ℕ) (fault : LineFault) → IsNotJson text fault → LineOf text (Err fault)
@@ -28,7 +30,8 @@ line-not_json text faults.Memory h = tt
 -- ---- a list of lines
 
 pub at_line : (ls : List (Bor (List ℕ))) (at : ℕ) → at < length ls
-    → map (λ l. l.now) (drop at ls) ≡ (get_or ls at (record { ref_ptr = (0, 0); now = [] })).now ∷ map (λ l. l.now) (drop (at + 1) ls)
+    → map (λ l. l.now) (drop at ls) ≡ (get_or ls at (record { ref_ptr = (0, 0); now = [] })).now ∷ map (λ l. l.now)
+    (drop (at + 1) ls)
 at_line ls at h =
     ap (λ (xs : List (Bor (List ℕ))). map (λ l. l.now) xs) (drop_more ls at (record { ref_ptr = (0, 0); now = [] }) h)
 
@@ -61,8 +64,10 @@ past_lines ls at h = ap (λ (xs : List (Bor (List ℕ))). map (λ l. l.now) xs) 
 
 pub one_more : (fs gs : List (Vec ℕ Global)) (f : Vec ℕ Global) (more : List (List ℕ)) → gs ≡ fs ++ (f ∷ [])
     → map (λ v. v.items) fs ++ (f.items ∷ more) ≡ map (λ v. v.items) gs ++ more
-one_more fs gs f more e = rw e (sym (rw (map-append (λ v. v.items) fs (f ∷ [])) (append_assoc (map (λ v. v.items) fs) (f.items ∷ []) more)))
+one_more fs gs f more e = rw e (sym (rw (map-append (λ v. v.items) fs (f ∷ [])) (append_assoc (map
+    (λ v. v.items) fs) (f.items ∷ []) more)))
 
-pub told_of : {P Q : LineRefusal → Type 0} → (told : Option LineRefusal) → ((r : LineRefusal) → P r → Q r) → IfTold P told → IfTold Q told
+pub told_of : {P Q : LineRefusal → Type 0} → (told : Option LineRefusal) → ((r : LineRefusal) → P r → Q r)
+    → IfTold P told → IfTold Q told
 told_of None f h = tt
 told_of (Some r) f h = f r h

@@ -14,7 +14,8 @@ prepend-more done b (Some m) = ap Some (sym (append_assoc done (b ∷ []) m))
 
 pub hex-step : (t done : List ℕ) (at b : ℕ) → at + 1 < length t
     → hex_pair (get_or t at 0) (get_or t (at + 1) 0) ≡ Some b
-    → option_map (λ m. done ++ m) (hex_bytes (drop at t)) ≡ option_map (λ m. (done ++ b ∷ []) ++ m) (hex_bytes (drop (at + 2) t))
+    → option_map (λ m. done ++ m) (hex_bytes (drop at t)) ≡ option_map (λ m. (done ++ b ∷ []) ++ m) (hex_bytes
+    (drop (at + 2) t))
 hex-step t done at b h pair =
     let e0 = next t at (at + 1) (omega arith) (omega arith) in
     let e1 = next t (at + 1) (at + 2) (omega arith) (omega arith) in
@@ -28,7 +29,8 @@ hex-odd t done at h last =
 
 step : (t done : List ℕ) (at b : ℕ) → at + 2 < length t → nat_eq (get_or t at 0) 58 ≡ true
     → hex_pair (get_or t (at + 1) 0) (get_or t (at + 2) 0) ≡ Some b
-    → option_map (λ m. done ++ m) (pairs_after (drop at t)) ≡ option_map (λ m. (done ++ b ∷ []) ++ m) (pairs_after (drop (at + 3) t))
+    → option_map (λ m. done ++ m) (pairs_after (drop at t)) ≡ option_map (λ m. (done ++ b ∷ []) ++ m) (pairs_after
+    (drop (at + 3) t))
 step t done at b h colon pair =
     let e0 = next t at (at + 1) (omega arith) (omega arith) in
     let e1 = next t (at + 1) (at + 2) (omega arith) (omega arith) in

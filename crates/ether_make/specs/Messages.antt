@@ -1,5 +1,7 @@
--- What messages say of a refusal.
+-- What messages say of a refusal, and how the program ends.
 use Rattle.std.specs.Prelude.{ℕ, List, codes}
+use Rattle.ether_make.specs.declared.lines.LineFault.{LineFault}
+use Rattle.ether_make.specs.declared.lines.LineFault.TheVariants.{Memory}
 use Rattle.ether_make.specs.declared.refusal.Reason.{Reason}
 use Rattle.ether_make.specs.declared.refusal.Reason.TheVariants.{Unknown, Missing, NotAnObject, NotAnArray, NotANumber, NotAText, NotBytes, NotAHeader, NotALink, TooBig, OtherLength, Absent}
 
@@ -17,3 +19,8 @@ reason_text NotALink = codes "names a header that begins no frame"
 reason_text TooBig = codes "has more bits than the field"
 reason_text OtherLength = codes "has another number of bytes than the field"
 reason_text Absent = codes "is a field that this header does not have"
+
+-- the exit status after a line that means no frame
+abbrev pub fault_status : LineFault → ℕ
+fault_status Memory = 5
+fault_status fault = 3

@@ -39,7 +39,8 @@ colon_bytes (a ∷ rest) = pairs_after (58 ∷ a ∷ rest)
 abbrev pub with_digit : Option ℕ → (c : ℕ) → Option ℕ
 with_digit None c = if nat_le 48 c && nat_le c 57 then Some (c - 48) else None
 with_digit (Some n) c =
-    if nat_le 48 c && nat_le c 57 && nat_lt 0 n && nat_lt (10 * n + (c - 48)) 256 then Some (10 * n + (c - 48)) else None
+    if nat_le 48 c && nat_le c 57 && nat_lt 0 n && nat_lt (10 * n + (c - 48)) 256 then Some (10 * n +
+    (c - 48)) else None
 
 -- the rest of numbers with a dot (46) between two, after the digits of this one
 abbrev pub dotted_after : Option ℕ → List ℕ → Option (List ℕ)

@@ -21,9 +21,13 @@ use std::env;
 use std::io::{Read, Write};
 use std::process::ExitCode;
 
+/// What `--version` prints, before an LF.
+const VERSION: &str = "ether_make 3.0.0";
+
 /// What `--help` prints.
 const HELP: &str = "\
 Usage: ether_make < LINES > CAPTURE
+       ether_make --help | --version
 
 Makes frames. Each line of standard input is a JSON object with the headers of a
 frame, as ether_capture --format json prints it, or shorter:
@@ -42,14 +46,8 @@ fn main(rt: HostRuntime) -> ExitCode {
     let Ok(args) = env::args(&rt) else {
         return ExitCode::from(4);
     };
-    let mut words = args.skip(1);
-    if let Some(word) = words.next() {
-        if word.as_str() == "--help" {
-            let told = print!(rt; "{HELP}");
-            return ExitCode::from(if told.is_ok() { 0 } else { 4 });
-        }
-        let _ = eprintln!(rt; "ether_make: this word is not known: {word}");
-        return ExitCode::from(2);
+    if let Some(word) = args.skip(1).next() {
+        return about(rt, word.as_str());
     }
     let mut text = Vec::new(rt.alloc());
     if let Err(error) = rt.reader().read_to_end(&mut text) {
@@ -63,6 +61,19 @@ fn main(rt: HostRuntime) -> ExitCode {
             ExitCode::from(program::status_of(&stop))
         }
     }
+}
+
+/// Says what a word asks for, or that it is not known.
+fn about(rt: HostRuntime, word: &str) -> ExitCode {
+    let told = match word {
+        "--help" => print!(rt; "{HELP}"),
+        "--version" => println!(rt; "{VERSION}"),
+        _ => {
+            let _ = eprintln!(rt; "ether_make: {word}: there is no such word; try --help");
+            return ExitCode::from(2);
+        }
+    };
+    ExitCode::from(if told.is_ok() { 0 } else { 4 })
 }
 
 /// Writes a capture to standard output.

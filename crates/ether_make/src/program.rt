@@ -1,7 +1,8 @@
 //! What a run of the program makes of its input.
-ghost use Rattle.std.specs.Prelude.{ℕ, List, IfOk, IfErr};
+ghost use Rattle.std.specs.Prelude.{◌≡◌, ℕ, List, IfOk, IfErr};
 ghost use Rattle.ether_make.specs.Lines.{lines_in};
 ghost use Rattle.ether_make.specs.LineViews.{StopsAt};
+ghost use Rattle.ether_make.specs.Messages.{fault_status};
 ghost use Rattle.ether_make.specs.Program.{IsMadeOf};
 
 use crate::capture::capture_of;
@@ -26,7 +27,9 @@ pub fn make_capture(alloc: Global, text: &[u8]) -> Result<Vec<u8>, Stop>
 }
 
 /// The exit status after a line that means no frame: 3, or 5 if there is no memory.
-pub fn status_of(stop: &Stop) -> u8 {
+pub fn status_of(stop: &Stop) -> u8
+    ensures { result ≡ fault_status stop.now.fault }
+{
     match stop.fault {
         LineFault::Memory => 5,
         _ => 3,

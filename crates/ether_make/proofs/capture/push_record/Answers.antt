@@ -12,7 +12,8 @@ returns c =
       header = c.header_to_bytes.result;
       header_len = c.header_to_bytes.ensures.len;
       writes =
-          subst (λ (n : ℕ). WritesRecordHeader LittleEndian c.header_to_bytes.result (record (record_of c.args.frame.now) { original_len = n }))
+          subst (λ (n : ℕ). WritesRecordHeader LittleEndian c.header_to_bytes.result (record
+          (record_of c.args.frame.now) { original_len = n }))
           e c.header_to_bytes.ensures.value;
       whole =
           c.in_ok-extend_from_slice-2.ensures.items

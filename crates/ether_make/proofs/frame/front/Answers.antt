@@ -12,4 +12,5 @@ returns c =
     ap (λ (h : Option (Bor Value)). front (option_map (λ v. view v.now) h)) c.in-Some.is
     ∙ front-array (view c.in-Some.headers.now) c.in-Some-as_array.objects.now.items c.in-Some-as_array.ensures
     ∙ ap (λ (vs : List Value). front_of (map view vs)) (sym c.as_slice.ensures.value) in
-    subst (λ (m : Meaning (List ℕ)). Tells (λ (v : Vec ℕ Global). v.items) m c.front_of.result) (sym e) c.front_of.ensures
+    subst (λ (m : Meaning (List ℕ)). Tells (λ (v : Vec ℕ Global). v.items) m c.front_of.result)
+    (sym e) c.front_of.ensures

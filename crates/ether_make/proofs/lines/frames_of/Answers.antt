@@ -9,7 +9,8 @@ use Rattle.ether_make.proofs.lines.frames_of.Goals as goal
 pub loop-at-preserved-then-is_empty : goal.loop-at-preserved-then-is_empty
 loop-at-preserved-then-is_empty c =
     λ more stop h. c.loop-at.invariant more stop
-    (lines-empty (c.loop-at.at + 1) _ _ _ (at_line c.args.lines.now c.loop-at.at c.loop-at-test.true) c.if-is_empty.ensures
+    (lines-empty (c.loop-at.at + 1) _ _ _
+    (at_line c.args.lines.now c.loop-at.at c.loop-at-test.true) c.if-is_empty.ensures
     more stop h)
 
 pub loop-at-preserved : goal.loop-at-preserved
@@ -18,7 +19,8 @@ loop-at-preserved c =
     subst (λ (fs : List (List ℕ)). LinesMean 1 (map (λ l. l.now) c.args.lines.now) fs stop)
     (one_more c.loop-at.frames.items _ c.in-Ok.frame more c.in_default.ensures.items)
     (c.loop-at.invariant (c.in-Ok.frame.items ∷ more) stop
-    (lines-frame (c.loop-at.at + 1) _ _ _ c.in-Ok.frame.items (at_line c.args.lines.now c.loop-at.at c.loop-at-test.true)
+    (lines-frame (c.loop-at.at + 1) _ _ _ c.in-Ok.frame.items
+    (at_line c.args.lines.now c.loop-at.at c.loop-at-test.true)
     (not_empty _ c.if-is_empty.ensures) c.in-Ok.ensures more stop h))
 
 pub returns-in-Err-clause-stop : goal.returns-in-Err-clause-stop
@@ -35,4 +37,5 @@ pub returns-clause-frames : goal.returns-clause-frames
 returns-clause-frames c =
     subst (λ (fs : List (List ℕ)). LinesMean 1 (map (λ l. l.now) c.args.lines.now) fs None)
     (append-nil (map (λ (f : Vec ℕ Global). f.items) c.loop-at.frames.items))
-    (c.loop-at.invariant [] None (lines-none (c.loop-at.at + 1) _ (past_lines c.args.lines.now c.loop-at.at c.loop-at-test.false)))
+    (c.loop-at.invariant [] None (lines-none (c.loop-at.at + 1) _
+    (past_lines c.args.lines.now c.loop-at.at c.loop-at-test.false)))

@@ -12,7 +12,8 @@ loop-key-init c =
       finite = tt;
       so_far =
           unknown-of_keys known c.args.object.now.entries
-          ∙ ap (unknown_key known) (sym (c.into_iter-key-iterator.ensures.into_iter_gives ∙ c.keys-key-items.ensures.rest));
+          ∙ ap (unknown_key known) (sym (c.into_iter-key-iterator.ensures.into_iter_gives
+          ∙ c.keys-key-items.ensures.rest));
     }
 
 pub returns-then-not-is_known : goal.returns-then-not-is_known

@@ -8,7 +8,8 @@ loop-at-preserved c = record {
   inside = omega arith;
   so_far =
       c.loop-at.invariant.so_far
-      ∙ colon-step c.args.text.now c.loop-at.bytes.items c.loop-at.at c.in-Some.byte c.loop-at-test.true (sym c.if-not-is_after_colon.ensures) (sym c.in-Some.ensures)
+      ∙ colon-step c.args.text.now c.loop-at.bytes.items c.loop-at.at c.in-Some.byte c.loop-at-test.true
+      (sym c.if-not-is_after_colon.ensures) (sym c.in-Some.ensures)
       ∙ ap (λ xs. option_map (λ more. xs ++ more) (pairs_after (drop (c.loop-at.at + 3) (58 ∷ c.args.text.now))))
       (sym c.in_ok-push.ensures.items);
 }
@@ -16,12 +17,14 @@ loop-at-preserved c = record {
 pub returns-then-not-is_after_colon : goal.returns-then-not-is_after_colon
 returns-then-not-is_after_colon c =
     sym (colon-some c.args.text.now (omega arith) ∙ c.loop-at.invariant.so_far
-    ∙ colon-missing c.args.text.now c.loop-at.bytes.items c.loop-at.at c.loop-at-test.true (sym c.if-not-is_after_colon.ensures))
+    ∙ colon-missing c.args.text.now c.loop-at.bytes.items c.loop-at.at c.loop-at-test.true
+    (sym c.if-not-is_after_colon.ensures))
 
 pub returns-in-None : goal.returns-in-None
 returns-in-None c =
     sym (colon-some c.args.text.now (omega arith) ∙ c.loop-at.invariant.so_far
-    ∙ colon-no_digits c.args.text.now c.loop-at.bytes.items c.loop-at.at c.loop-at-test.true (sym c.if-not-is_after_colon.ensures) (sym c.in-None.ensures))
+    ∙ colon-no_digits c.args.text.now c.loop-at.bytes.items c.loop-at.at c.loop-at-test.true
+    (sym c.if-not-is_after_colon.ensures) (sym c.in-None.ensures))
 
 pub returns-then-at-text : goal.returns-then-at-text
 returns-then-at-text c =

@@ -1,0 +1,208 @@
+"""Tests what `ether_make` writes and how it ends.
+
+    python3 tests/ether_make.py PROGRAM [WORD]
+
+PROGRAM is the built program, WORD one that the names of the cases have which are run, all if it is left out. The frames that are expected
+were written by hand, field by field, from the standards; if scapy and tshark are there, frames are also compared with scapy's, and the
+captures with what tshark reads in them. The last line is 'N passed, M failed'.
+"""
+
+import argparse
+import json
+import os
+import shutil
+import struct
+import subprocess
+import sys
+from dataclasses import dataclass
+
+from programs import count
+
+FILE_HEADER = struct.pack("<IHHIIII", 0xA1B23C4D, 2, 4, 0, 0, 262_144, 1)
+
+
+@dataclass
+class Frame:
+    """Lines, and the frames that they mean."""
+
+    name: str
+    lines: str
+    frames: list
+
+
+@dataclass
+class Refused:
+    """Lines, what the program says of them after its name, and the exit status."""
+
+    name: str
+    lines: str
+    said: str
+    status: int = 3
+
+
+def line(*headers, **members):
+    return json.dumps({"headers": list(headers), **members}) + "\n"
+
+
+ETH = {"header": "eth", "dst": "00:00:5e:00:01:01", "src": "02:00:00:00:00:01"}
+ADDRESSES = "00005e000101" "020000000001"
+
+FRAMES = [
+    Frame("no line", "", []),
+    Frame("an empty line means nothing", "\n\n", []),
+    Frame("no header", line(), [""]),
+    Frame("a header with nothing given", line({"header": "eth"}), ["00" * 14]),
+    Frame("addresses (IEEE 802.3, 3.2)", line({**ETH, "type": 0x0800}), [ADDRESSES + "0800"]),
+    Frame("null is missing", line({**ETH, "type": None, "fcs": None}), [ADDRESSES + "0000"]),
+    Frame("what only describes", line({**ETH, "start": 0, "end": 99, "payload_end": 3, "closed": True}, number=7), [ADDRESSES + "0000"]),
+    Frame("a tag (IEEE 802.1Q, 9.6)", line(ETH, {"header": "vlan", "pcp": 5, "dei": 1, "vid": 0x123, "type": 0x0800}),
+          [ADDRESSES + "8100" "b123" "0800"]),
+    Frame("a type that is wrong on purpose", line({**ETH, "type": 0x88A8}, {"header": "vlan"}), [ADDRESSES + "88a8" "0000" "0000"]),
+    Frame("two tags", line(ETH, {"header": "vlan", "vid": 1}, {"header": "vlan", "vid": 4095}), [ADDRESSES + "8100" "0001" "8100" "0fff" "0000"]),
+    # RFC 826, "Packet format", with the values of "An Example": a request for an address of IPv4 over Ethernet
+    Frame("an ARP request", line({**ETH, "dst": "ff:ff:ff:ff:ff:ff"}, {"header": "arp", "sha": "02:00:00:00:00:01", "spa": "10.9.0.1", "tpa": "10.9.0.2"}),
+          ["ffffffffffff" "020000000001" "0806" "0001" "0800" "06" "04" "0001" "020000000001" "0a090001" "000000000000" "0a090002"]),
+    Frame("an ARP reply in a VLAN", line(ETH, {"header": "vlan", "vid": 7}, {"header": "arp", "op": 2}),
+          [ADDRESSES + "8100" "0007" "0806" "0001" "0800" "06" "04" "0002" + "00" * 20]),
+    Frame("sizes by the addresses", line(ETH, {"header": "arp", "hrd": 32, "sha": "01:02:03:04:05:06:07:08", "spa": "aa:bb"}),
+          [ADDRESSES + "0806" "0020" "0800" "08" "02" "0001" "0102030405060708" "aabb" + "00" * 10]),
+    Frame("no hardware address", line(ETH, {"header": "arp", "hln": 0, "sha": "", "tha": ""}),
+          [ADDRESSES + "0806" "0001" "0800" "00" "04" "0001" + "00" * 8]),
+    Frame("bytes after the headers", line({**ETH, "type": 2048}, rest={"kind": "ether_type", "type": 2048, "bytes": "4500001C"}),
+          [ADDRESSES + "0800" "4500001c"]),
+    Frame("a rest without bytes", line(ETH, rest={"start": 14, "end": 60, "kind": "ether_type", "type": None}), [ADDRESSES + "0000"]),
+    Frame("three lines, of which one is empty", line(ETH) + "\n" + line({"header": "eth", "type": 1}), [ADDRESSES + "0000", "00" * 12 + "0001"]),
+    Frame("no line feed at the end", line(ETH).strip(), [ADDRESSES + "0000"]),
+    Frame("the last of two members of one name (RFC 8259, 4)", '{"headers":[{"header":"eth","type":1,"type":2}]}', ["00" * 12 + "0002"]),
+]
+
+REFUSED = [
+    Refused("no JSON", "{\n", "line 1: this is no JSON text"),
+    Refused("no UTF-8", "\"\udcff\"\n", "line 1: this is no JSON text"),
+    Refused("no object", "5\n", "line 1: headers is missing"),
+    Refused("no headers", "{}\n", "line 1: headers is missing"),
+    Refused("headers that are no array", '{"headers":{}}\n', "line 1: headers is no array"),
+    Refused("an unknown member", '{"headers":[],"head":1}\n', "line 1: head is no member of this object"),
+    Refused("a fault", '{"fault":{},"headers":[]}\n', "line 1: fault is no member of this object"),
+    Refused("the line's number counts empty lines", line(ETH) + "\n" + "x\n", "line 3: this is no JSON text"),
+    Refused("no name of a header", line({"dst": "ff:ff:ff:ff:ff:ff"}), "line 1: header 0: header is missing"),
+    Refused("a name that is no text", line({"header": 5}), "line 1: header 0: header is no text"),
+    Refused("an unknown header", line(ETH, {"header": "ipv4"}), "line 1: header 1: header names no header that is made"),
+    Refused("a tag first", line({"header": "vlan"}), "line 1: header 0: header names a header that begins no frame"),
+    Refused("a member of another header", line({**ETH, "vid": 5}), "line 1: header 0: vid is no member of this object"),
+    Refused("the first of two headers", line({**ETH, "a": 5}, {"header": "vlan", "b": 5}), "line 1: header 0: a is no member of this object"),
+    Refused("a number that is too big", line(ETH, {"header": "vlan", "vid": 4096}), "line 1: header 1: vid has more bits than the field"),
+    Refused("the first of two fields", line(ETH, {"header": "vlan", "vid": 4096, "pcp": 8}), "line 1: header 1: pcp has more bits than the field"),
+    Refused("a number below 0", line(ETH, {"header": "vlan", "vid": -1}), "line 1: header 1: vid is no number from 0 on"),
+    Refused("a number that is not whole", line(ETH, {"header": "vlan", "vid": 0.5}), "line 1: header 1: vid is no number from 0 on"),
+    Refused("a text for a number", line(ETH, {"header": "vlan", "vid": "5"}), "line 1: header 1: vid is no number from 0 on"),
+    Refused("a number for an address", line({"header": "eth", "dst": 5}), "line 1: header 0: dst is no text"),
+    Refused("an address cut short", line({"header": "eth", "dst": "02:00:00:00:00"}), "line 1: header 0: dst has another number of bytes than the field"),
+    Refused("an address with one digit", line({"header": "eth", "dst": "2:0:0:0:0:1"}), "line 1: header 0: dst spells no bytes"),
+    Refused("an address that ends in a colon", line({"header": "eth", "dst": "02:00:00:00:00:01:"}), "line 1: header 0: dst spells no bytes"),
+    Refused("an address with hyphens", line({"header": "eth", "dst": "02-00-00-00-00-01"}), "line 1: header 0: dst spells no bytes"),
+    Refused("an address of IPv4 with 256", line(ETH, {"header": "arp", "spa": "10.0.0.256"}), "line 1: header 1: spa spells no bytes"),
+    Refused("an address of IPv4 with a zero before", line(ETH, {"header": "arp", "spa": "10.0.0.01"}), "line 1: header 1: spa spells no bytes"),
+    Refused("three numbers", line(ETH, {"header": "arp", "spa": "10.0.0"}), "line 1: header 1: spa has another number of bytes than the field"),
+    Refused("sizes that contradict", line(ETH, {"header": "arp", "hln": 8, "sha": "02:00:00:00:00:01"}),
+            "line 1: header 1: sha has another number of bytes than the field"),
+    Refused("addresses that contradict", line(ETH, {"header": "arp", "sha": "02:00:00:00:00:01", "tha": "02:00"}),
+            "line 1: header 1: tha has another number of bytes than the field"),
+    Refused("a size above 255", line(ETH, {"header": "arp", "hln": 256}), "line 1: header 1: hln has more bits than the field"),
+    Refused("a check sequence", line({**ETH, "fcs": "00:00:00:00"}), "line 1: header 0: fcs is a field that this header does not have"),
+    Refused("a rest that is no object", line(ETH, rest=5), "line 1: rest is no object"),
+    Refused("a member of the rest", line(ETH, rest={"text": ""}), "line 1: text is no member of this object"),
+    Refused("bytes that are no text", line(ETH, rest={"bytes": 45}), "line 1: bytes is no text"),
+    Refused("half a byte", line(ETH, rest={"bytes": "450"}), "line 1: bytes spells no bytes"),
+    Refused("a frame that is too long", line(ETH, rest={"bytes": "00" * 262_131}), "line 1: the frame has more than 262144 bytes"),
+]
+
+
+def made(program, lines):
+    """What the program writes, what it says, and its status."""
+    done = subprocess.run([program], input=lines.encode("utf-8", "surrogateescape"), capture_output=True, check=False)
+    return done.stdout, done.stderr.decode(), done.returncode
+
+
+def capture_of(frames):
+    """A capture with times of 0 (draft-ietf-opsawg-pcap, sections 4 and 5)."""
+    return FILE_HEADER + b"".join(struct.pack("<IIII", 0, 0, len(frame), len(frame)) + frame for frame in frames)
+
+
+def frames_of(capture):
+    frames, at = [], 24
+    while at < len(capture):
+        length = struct.unpack_from("<I", capture, at + 8)[0]
+        frames.append(capture[at + 16:at + 16 + length])
+        at += 16 + length
+    return frames
+
+
+def frame_cases(program):
+    for case in FRAMES:
+        yield case.name, made(program, case.lines), (capture_of([bytes.fromhex(it) for it in case.frames]), "", 0)
+    longest = line(ETH, rest={"bytes": "00" * (262_144 - 14)})
+    yield "the longest frame", made(program, longest), (capture_of([bytes.fromhex(ADDRESSES + "0000") + bytes(262_130)]), "", 0)
+
+
+def refused_cases(program):
+    for case in REFUSED:
+        yield case.name, made(program, case.lines), (b"", f"ether_make: {case.said}\n", case.status)
+
+
+def word_cases(program):
+    def said(*words):
+        done = subprocess.run([program, *words], stdin=subprocess.DEVNULL, capture_output=True, check=False)
+        return done.stdout.decode(), done.stderr.decode(), done.returncode
+
+    with open(os.path.join(os.path.dirname(os.path.abspath(__file__)), "..", "VERSION"), encoding="utf-8") as file:
+        yield "--version", said("--version"), (f"ether_make {file.read().strip()}\n", "", 0)
+    yield "--help", said("--help")[0].splitlines()[0], "Usage: ether_make < LINES > CAPTURE"
+    yield "a wrong word", said("--hex"), ("", "ether_make: --hex: there is no such word; try --help\n", 2)
+
+
+def scapy_cases(program):
+    """The frames that scapy makes of the same fields."""
+    try:
+        from scapy.layers.l2 import ARP, Dot1Q, Ether  # pylint: disable=import-outside-toplevel
+    except ImportError:
+        print("without scapy")
+        return
+    for number in range(0, 4096, 273):
+        vlan, op = {"header": "vlan", "pcp": number % 8, "dei": number % 2, "vid": number}, number * 16
+        arp = {"header": "arp", "op": op, "sha": "02:00:00:00:00:0a", "spa": f"10.0.{number % 256}.1", "tha": "02:00:00:00:00:0b", "tpa": "10.0.0.2"}
+        theirs = (Ether(dst=ETH["dst"], src=ETH["src"]) / Dot1Q(prio=number % 8, id=number % 2, vlan=number)
+                  / ARP(op=op, hwsrc=arp["sha"], psrc=arp["spa"], hwdst=arp["tha"], pdst=arp["tpa"]))
+        yield f"scapy's frame {number}", made(program, line(ETH, vlan, arp)), (capture_of([bytes(theirs)]), "", 0)
+
+
+def tshark_cases(program):
+    """What tshark reads in captures of all frames: each frame, and no malformed one among those with whole headers."""
+    if not shutil.which("tshark"):
+        print("without tshark")
+        return
+    lines = "".join(case.lines.rstrip("\n") + "\n" for case in FRAMES)
+    words = ["tshark", "-r", "-", "-T", "fields", "-e", "frame.len", "-e", "eth.src", "-e", "vlan.id", "-e", "arp.dst.proto_ipv4"]
+    capture = made(program, lines)[0]
+    read = subprocess.run(words, input=capture, capture_output=True, check=False)
+    yield "tshark's frames", len(read.stdout.splitlines()), sum(len(case.frames) for case in FRAMES)
+    request = made(program, FRAMES[10].lines)[0]
+    read = subprocess.run(words, input=request, capture_output=True, check=False)
+    yield "tshark's ARP request", read.stdout.decode(), "42\t02:00:00:00:00:01\t\t10.9.0.2\n"
+    whole = made(program, line(ETH, {"header": "vlan", "vid": 5}, {"header": "arp"}))[0]
+    read = subprocess.run(["tshark", "-r", "-", "-V"], input=whole, capture_output=True, check=False)
+    yield "nothing malformed", b"Malformed" in read.stdout, False
+
+
+def main():
+    words = argparse.ArgumentParser(description=__doc__, formatter_class=argparse.RawDescriptionHelpFormatter)
+    words.add_argument("program", metavar="PROGRAM")
+    words.add_argument("word", metavar="WORD", nargs="?", default="")
+    given = words.parse_args()
+    cases = [*frame_cases(given.program), *refused_cases(given.program), *word_cases(given.program),
+             *scapy_cases(given.program), *tshark_cases(given.program)]
+    return count((name, got, wanted) for name, got, wanted in cases if given.word in name)
+
+
+if __name__ == "__main__":
+    sys.exit(main())
