@@ -1,7 +1,7 @@
 //! Makes frames from objects of JSON, one in each line of standard input, and writes them as a capture to standard
 //! output.
 //!
-//! `main` calls [`program::make_capture`] on all that it reads. A message why no capture is made goes to standard
+//! `main` calls [`program::run`] on the standard streams. A message why no capture is made goes to standard
 //! error.
 #![tactic(auto)]
 
@@ -17,8 +17,8 @@ pub mod refusal;
 pub mod sizes;
 pub mod texts;
 
+use program::RunFault;
 use std::env;
-use std::io::{Read, Write};
 use std::process::ExitCode;
 
 /// What `--version` prints, before an LF.
@@ -49,18 +49,24 @@ fn main(rt: HostRuntime) -> ExitCode {
     if let Some(word) = args.skip(1).next() {
         return about(rt, word.as_str());
     }
-    let mut text = Vec::new(rt.alloc());
-    if let Err(error) = rt.reader().read_to_end(&mut text) {
-        let _ = eprintln!(rt; "ether_make: standard input can't be read: {error}");
-        return ExitCode::from(4);
+    match program::run(rt.alloc(), &mut rt.reader(), &mut rt.stdout()) {
+        Ok(()) => ExitCode::from(0),
+        Err(fault) => ExitCode::from(tell(rt, &fault)),
     }
-    match program::make_capture(rt.alloc(), &text) {
-        Ok(bytes) => write_all(rt, &bytes),
-        Err(stop) => {
-            let _ = eprintln!(rt; "ether_make: {stop}");
-            ExitCode::from(program::status_of(&stop))
-        }
-    }
+}
+
+/// Says why no capture was made, and returns the exit status.
+fn tell(rt: HostRuntime, fault: &RunFault) -> u8 {
+    let (told, status) = match fault {
+        RunFault::Input(error) => (eprintln!(rt; "ether_make: standard input: {error}"), 4),
+        RunFault::Output(error) => (eprintln!(rt; "ether_make: standard output: {error}"), 4),
+        RunFault::Line(stop) => (
+            eprintln!(rt; "ether_make: {stop}"),
+            program::status_of(stop),
+        ),
+    };
+    let _ = told;
+    status
 }
 
 /// Says what a word asks for, or that it is not known.
@@ -74,16 +80,4 @@ fn about(rt: HostRuntime, word: &str) -> ExitCode {
         }
     };
     ExitCode::from(if told.is_ok() { 0 } else { 4 })
-}
-
-/// Writes a capture to standard output.
-fn write_all(rt: HostRuntime, bytes: &[u8]) -> ExitCode {
-    let mut output = rt.stdout();
-    match output.write_all(bytes) {
-        Ok(()) => ExitCode::from(0),
-        Err(error) => {
-            let _ = eprintln!(rt; "ether_make: standard output can't be written: {error}");
-            ExitCode::from(4)
-        }
-    }
 }

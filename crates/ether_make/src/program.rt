@@ -1,20 +1,50 @@
 //! What a run of the program makes of its input.
-ghost use Rattle.std.specs.Prelude.{◌≡◌, ℕ, List, IfOk, IfErr};
-ghost use Rattle.ether_make.specs.Lines.{lines_in};
-ghost use Rattle.ether_make.specs.LineViews.{StopsAt};
+ghost use Rattle.std.specs.Prelude.{◌≡◌, IfOk, IfErr, OnOk};
 ghost use Rattle.ether_make.specs.Messages.{fault_status};
-ghost use Rattle.ether_make.specs.Program.{IsMadeOf};
+ghost use Rattle.ether_make.specs.Program.{AfterFault, HasMade, IsMadeOf, StopsIn};
 
 use crate::capture::capture_of;
 use crate::lines::{LineFault, Stop, make_frames};
 use std::alloc::Global;
-use std::fmt;
+use std::io::{Read, Write};
+use std::{fmt, io};
+
+/// Why a run made no capture.
+#[derive(Drop)]
+pub enum RunFault {
+    /// The reader failed.
+    Input(io::Error),
+    /// A line means no frame.
+    Line(Stop),
+    /// The writer failed.
+    Output(io::Error),
+}
+
+/// Reads all lines of a reader, and writes the capture of their frames.
+pub fn run<R: Read, W: Write>(alloc: Global, reader: &mut R, writer: &mut W) -> Result<(), RunFault>
+    ensures made { OnOk result (HasMade (R.remaining reader.old) (R.remaining reader.new)
+        (W.contents writer.old) (W.contents writer.new)) }
+    ensures fault { IfErr result (AfterFault (R.remaining reader.old) (R.remaining reader.new)
+        (W.contents writer.old) (W.contents writer.new)) }
+{
+    let mut text = Vec::new(alloc);
+    if let Err(error) = reader.read_to_end(&mut text) {
+        return Err(RunFault::Input(error));
+    }
+    let bytes = match make_capture(alloc, &text) {
+        Ok(bytes) => bytes,
+        Err(stop) => return Err(RunFault::Line(stop)),
+    };
+    match writer.write_all(&bytes) {
+        Ok(()) => Ok(()),
+        Err(error) => Err(RunFault::Output(error)),
+    }
+}
 
 /// The capture of the frames that the lines of a text mean, or the first line that means none.
 pub fn make_capture(alloc: Global, text: &[u8]) -> Result<Vec<u8>, Stop>
     ensures made { IfOk result (λ v. IsMadeOf text.now v.items) }
-    ensures stop { IfErr result (λ s. (frames : List (List ℕ))
-        × StopsAt 1 (lines_in text.now) frames s.line s.fault) }
+    ensures stop { IfErr result (StopsIn text.now) }
 {
     let frames = match make_frames(alloc, text) {
         Ok(frames) => frames,
