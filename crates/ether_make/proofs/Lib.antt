@@ -4,3 +4,4 @@ pub mod KeyLemmas
 pub mod FrameLemmas
 pub mod LineLemmas
 pub mod CaptureLemmas
+pub mod WorkedExamples
