@@ -324,7 +324,7 @@ def copies_that_fail(program):
     with os.fdopen(end, "wb") as out:
         done = subprocess.run([program, "--write"], input=CLASSIC, stdout=out, stderr=subprocess.PIPE, check=False)
     silent = subprocess.run([program, "--write"], input=CLASSIC[:120], stdout=subprocess.PIPE, preexec_fn=lambda: os.close(2), check=False)
-    limit = lambda: resource.setrlimit(resource.RLIMIT_AS, (6 << 20, 6 << 20))  # noqa: E731
+    limit = lambda: resource.setrlimit(resource.RLIMIT_AS, (8 << 20, 8 << 20))  # noqa: E731
     large = secrets(16_777_216, 16_777_216)
     return [
         ("a copy to a full disk", partial(on_a_full_disk, program, ["--write"], CLASSIC), DISK_IS_FULL),
