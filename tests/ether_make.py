@@ -71,7 +71,7 @@ FRAMES = [
     Frame("bytes after the headers", line({**ETH, "type": 2048}, rest={"kind": "ether_type", "type": 2048, "bytes": "4500001C"}),
           [ADDRESSES + "0800" "4500001c"]),
     Frame("a rest without bytes", line(ETH, rest={"start": 14, "end": 60, "kind": "ether_type", "type": None}), [ADDRESSES + "0000"]),
-    Frame("three lines, of which one is empty", line(ETH) + "\n" + line({"header": "eth", "type": 1}), [ADDRESSES + "0000", "00" * 12 + "0001"]),
+    Frame("three lines, and one of them empty", line(ETH) + "\n" + line({"header": "eth", "type": 1}), [ADDRESSES + "0000", "00" * 12 + "0001"]),
     Frame("no line feed at the end", line(ETH).strip(), [ADDRESSES + "0000"]),
     Frame("the last of two members of one name (RFC 8259, 4)", '{"headers":[{"header":"eth","type":1,"type":2}]}', ["00" * 12 + "0002"]),
 ]

@@ -21,7 +21,7 @@ pub a_tag_refused : header_bytes 1 None (tag 4096) ≡ Err (refused (Some 1) (co
 unfolding bits
 a_tag_refused = refl
 
--- a header of which only the name and an address are given (IEEE 802.3, 3.2)
+-- a header with a name and an address alone (IEEE 802.3, 3.2)
 abbrev pub link : Data
 link =
     object (member (codes "dst") (string (codes "00:00:5e:00:01:FF"))

@@ -36,7 +36,7 @@ pub data LineMeans (text : List ℕ) : Result (List ℕ) LineRefusal → Type 0 
 abbrev pub lines_in : List ℕ → List (List ℕ)
 lines_in text = slice_split (λ c. c == 10) text
 
--- Lines, of which the first has this number, mean these frames, to the end or to a line that is refused. An empty line
+-- Lines, the first with this number, mean these frames, to the end or to a line that is refused. An empty line
 -- means nothing.
 pub data LinesMean : (number : ℕ) → (lines frames : List (List ℕ)) → Option (ℕ × LineRefusal) → Type 0 where
   none : (number : ℕ) → LinesMean number [] [] None

@@ -9,7 +9,7 @@ abbrev pub not_null_of : Data → Option Data
 not_null_of null = None
 not_null_of d = Some d
 
--- `null` stands for a value that is missing
+-- `null` is a value that is missing
 abbrev pub not_null : Option Data → Option Data
 not_null d = option_and_then not_null_of d
 

@@ -62,7 +62,7 @@ fn front<'v>(alloc: Global, headers: Option<&'v Value>) -> Result<Vec<u8>, Fault
     front_of(alloc, objects.as_slice())
 }
 
-/// The bytes of headers, of which the first begins a frame.
+/// The bytes of headers. The first one has to begin a frame.
 fn front_of<'v>(alloc: Global, objects: &'v [Value]) -> Result<Vec<u8>, Fault<'v>>
     ensures { Tells (λ v. v.items) (front_of_in (map view objects.now)) result }
 {

@@ -8,7 +8,7 @@ ghost use Rattle.ether_make.specs.Objects.{given as given_in, number_of as numbe
 use ether_fields::Field;
 use serde_json::{Map, Value};
 
-/// The value of a member; `null` stands for one that is missing.
+/// The value of a member. `null` is a value that is missing.
 pub fn given<'v>(object: &'v Value, name: &str) -> Option<&'v Value>
     ensures { option_map (λ v. view v.now) result ≡ given_in name.now (view object.now) }
 {
