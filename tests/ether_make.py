@@ -68,6 +68,28 @@ FRAMES = [
           [ADDRESSES + "0806" "0020" "0800" "08" "02" "0001" "0102030405060708" "aabb" + "00" * 10]),
     Frame("no hardware address", line(ETH, {"header": "arp", "hln": 0, "sha": "", "tha": ""}),
           [ADDRESSES + "0806" "0001" "0800" "00" "04" "0001" + "00" * 8]),
+    # IEEE 802.1AE, 9.3 to 9.9: V, ES, SC, SCB, E, C, AN; two bits of 0, SL; PN; SCI; and the ether type after it
+    Frame("a SecTag", line(ETH, {"header": "macsec", "an": 1, "pn": 5}), [ADDRESSES + "88e5" "01" "00" "00000005" "0000"]),
+    Frame("a SecTag with an SCI", line(ETH, {"header": "macsec", "es": 1, "scb": 1, "sl": 47, "sci": "02:00:00:00:00:01:00:01"}),
+          [ADDRESSES + "88e5" "70" "2f" "00000000" "0200000000010001" "0000"]),
+    Frame("an SCI of zeros", line(ETH, {"header": "macsec", "sc": 1}), [ADDRESSES + "88e5" "20" "00" "00000000" "0000000000000000" "0000"]),
+    Frame("no SCI", line(ETH, {"header": "macsec", "sc": 0, "sci": None}), [ADDRESSES + "88e5" "00" "00" "00000000" "0000"]),
+    Frame("an encrypted payload", line(ETH, {"header": "macsec", "payload": "encrypted", "e": 1, "c": 1}, rest={"bytes": "beef"}),
+          [ADDRESSES + "88e5" "0c" "00" "00000000" "beef"]),
+    Frame("a changed payload", line(ETH, {"header": "macsec", "c": 1}), [ADDRESSES + "88e5" "04" "00" "00000000"]),
+    Frame("a version that is wrong on purpose", line(ETH, {"header": "macsec", "v": 1, "reserved": 3, "sl": 63, "an": 3, "pn": 4294967295}),
+          [ADDRESSES + "88e5" "83" "ff" "ffffffff" "0000"]),
+    Frame("a tag after a SecTag", line(ETH, {"header": "macsec"}, {"header": "vlan", "vid": 5}),
+          [ADDRESSES + "88e5" "00" "00" "00000000" "8100" "0005" "0000"]),
+    Frame("a SecTag after a tag", line(ETH, {"header": "vlan", "vid": 5}, {"header": "macsec"}),
+          [ADDRESSES + "8100" "0005" "88e5" "00" "00" "00000000" "0000"]),
+    # IEEE 802.1AE, C.1: a frame of 54 octets that GCM-AES-128 protects and does not encrypt
+    Frame("the standard's example of MACsec",
+          line({"header": "eth", "dst": "d6:09:b1:f0:56:63", "src": "7a:0d:46:df:99:8d"},
+               {"header": "macsec", "an": 2, "sl": 42, "pn": 0xB2C28465, "sci": "12:15:35:24:c0:89:5e:81", "type": 2048},
+               rest={"bytes": "".join(f"{byte:02x}" for byte in range(0x0F, 0x35)) + "0001" "f09478a9b09007d06f46e9b6a1da25dd"}),
+          ["d609b1f056637a0d46df998d88e5222ab2c2846512153524c0895e8108000f101112131415161718191a1b1c1d1e1f202122232425262728292a2b2c2d2e2f30313233340001"
+           "f09478a9b09007d06f46e9b6a1da25dd"]),
     Frame("bytes after the headers", line({**ETH, "type": 2048}, rest={"kind": "ether_type", "type": 2048, "bytes": "4500001C"}),
           [ADDRESSES + "0800" "4500001c"]),
     Frame("a rest without bytes", line(ETH, rest={"start": 14, "end": 60, "kind": "ether_type", "type": None}), [ADDRESSES + "0000"]),
@@ -109,6 +131,23 @@ REFUSED = [
     Refused("addresses that contradict", line(ETH, {"header": "arp", "sha": "02:00:00:00:00:01", "tha": "02:00"}),
             "line 1: header 1: tha has another number of bytes than the field"),
     Refused("a size above 255", line(ETH, {"header": "arp", "hln": 256}), "line 1: header 1: hln has more bits than the field"),
+    Refused("an SCI without its bit", line(ETH, {"header": "macsec", "sc": 0, "sci": "02:00:00:00:00:01:00:01"}),
+            "line 1: header 1: sci is a field that this header does not have"),
+    Refused("an ether type that is encrypted", line(ETH, {"header": "macsec", "e": 1, "type": 2048}),
+            "line 1: header 1: type is a field that this header does not have"),
+    Refused("an ether type that is changed", line(ETH, {"header": "macsec", "c": 1, "type": 2048}),
+            "line 1: header 1: type is a field that this header does not have"),
+    Refused("an SCI cut short", line(ETH, {"header": "macsec", "sci": "02:00:00:00:00:01"}),
+            "line 1: header 1: sci has another number of bytes than the field"),
+    Refused("an SCI that is a number", line(ETH, {"header": "macsec", "sci": 5}), "line 1: header 1: sci is no text"),
+    Refused("an association number above 3", line(ETH, {"header": "macsec", "an": 4}), "line 1: header 1: an has more bits than the field"),
+    Refused("a short length above 63", line(ETH, {"header": "macsec", "sl": 64}), "line 1: header 1: sl has more bits than the field"),
+    Refused("a packet number with 33 bits", line(ETH, {"header": "macsec", "pn": 1 << 32}), "line 1: header 1: pn has more bits than the field"),
+    Refused("a version above 1", line(ETH, {"header": "macsec", "v": 2}), "line 1: header 1: v has more bits than the field"),
+    Refused("a flag above 1", line(ETH, {"header": "macsec", "e": 2}), "line 1: header 1: e has more bits than the field"),
+    Refused("reserved bits above 3", line(ETH, {"header": "macsec", "reserved": 4}), "line 1: header 1: reserved has more bits than the field"),
+    Refused("a flag that is true", line(ETH, {"header": "macsec", "es": True}), "line 1: header 1: es is no number from 0 on"),
+    Refused("a SecTag first", line({"header": "macsec"}), "line 1: header 0: header names a header that begins no frame"),
     Refused("a check sequence", line({**ETH, "fcs": "00:00:00:00"}), "line 1: header 0: fcs is a field that this header does not have"),
     Refused("a rest that is no object", line(ETH, rest=5), "line 1: rest is no object"),
     Refused("a member of the rest", line(ETH, rest={"text": ""}), "line 1: text is no member of this object"),
@@ -164,6 +203,7 @@ def word_cases(program):
 def scapy_cases(program):
     """The frames that scapy makes of the same fields."""
     try:
+        from scapy.contrib.macsec import MACsec  # pylint: disable=import-outside-toplevel
         from scapy.layers.l2 import ARP, Dot1Q, Ether  # pylint: disable=import-outside-toplevel
     except ImportError:
         print("without scapy")
@@ -174,6 +214,13 @@ def scapy_cases(program):
         theirs = (Ether(dst=ETH["dst"], src=ETH["src"]) / Dot1Q(prio=number % 8, id=number % 2, vlan=number)
                   / ARP(op=op, hwsrc=arp["sha"], psrc=arp["spa"], hwdst=arp["tha"], pdst=arp["tpa"]))
         yield f"scapy's frame {number}", made(program, line(ETH, vlan, arp)), (capture_of([bytes(theirs)]), "", 0)
+        sectag = {"header": "macsec", "es": number % 2, "scb": number // 2 % 2, "an": number % 4, "sl": number % 64, "pn": number * 1_000_003,
+                  "sci": f"02:00:00:00:00:01:{number // 256:02x}:{number % 256:02x}"}
+        theirs = (Ether(dst=ETH["dst"], src=ETH["src"])
+                  / MACsec(ES=number % 2, SC=1, SCB=number // 2 % 2, AN=number % 4, SL=number % 64, PN=number * 1_000_003,
+                           SCI=bytes.fromhex("020000000001") + number.to_bytes(2, "big"), type=0x8100) / Dot1Q(vlan=number, type=0))
+        tagged = line(ETH, sectag, {"header": "vlan", "vid": number})
+        yield f"scapy's SecTag {number}", made(program, tagged), (capture_of([bytes(theirs)]), "", 0)
 
 
 def tshark_cases(program):

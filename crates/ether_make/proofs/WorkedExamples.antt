@@ -32,3 +32,15 @@ pub a_frame : frame_bytes (object (member (codes "headers") (array (item link (i
     ≡ Ok (0 ∷ 0 ∷ 0x5E ∷ 0 ∷ 1 ∷ 0xFF ∷ 0 ∷ 0 ∷ 0 ∷ 0 ∷ 0 ∷ 0 ∷ 0x81 ∷ 0 ∷ 0xB0 ∷ 5 ∷ 0 ∷ 0 ∷ [])
 unfolding bits
 a_frame = refl
+
+-- a SecTag with AN 2, SL 42 and an SCI (IEEE 802.1AE, C.1), before IPv4
+abbrev pub sectag : Data
+sectag =
+    object (member (codes "an") (number (unsigned 2)) (member (codes "header") (string (codes "macsec"))
+    (member (codes "pn") (number (unsigned 0xB2C28465)) (member (codes "sci") (string (codes "12:15:35:24:c0:89:5e:81"))
+    (member (codes "sl") (number (unsigned 42)) (member (codes "type") (number (unsigned 2048)) no_members))))))
+
+pub a_sectag : header_bytes 1 None sectag
+    ≡ Ok (0x22 ∷ 0x2A ∷ 0xB2 ∷ 0xC2 ∷ 0x84 ∷ 0x65 ∷ 0x12 ∷ 0x15 ∷ 0x35 ∷ 0x24 ∷ 0xC0 ∷ 0x89 ∷ 0x5E ∷ 0x81 ∷ 8 ∷ 0 ∷ [])
+unfolding bits
+a_sectag = refl

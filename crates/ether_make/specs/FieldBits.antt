@@ -1,5 +1,5 @@
 -- The bits of a field.
-use Rattle.std.specs.Prelude.{ℕ, ◌*◌, ◌^◌, List, [], ◌∷◌, ◌||◌, length, Bool, true, false, Option, Some, None, Result, Ok, Err, nat_eq, nat_lt, if◌then◌else◌}
+use Rattle.std.specs.Prelude.{ℕ, ◌*◌, ◌-◌, ◌^◌, List, [], ◌∷◌, ◌++◌, ◌||◌, length, Bool, true, false, Option, Some, None, Result, Ok, Err, unwrap_or, nat_eq, nat_lt, if◌then◌else◌}
 use Rattle.serde_json.specs.Data.{Data}
 use Rattle.serde_json.specs.Find.{as_str}
 use Rattle.ether_fields.specs.declared.kind.Kind.{Kind}
@@ -29,15 +29,15 @@ abbrev pub text_bytes : Kind → List ℕ → Option (List ℕ)
 text_bytes kinds.ProtocolAddress text = if has_dot text then dotted_bytes text else colon_bytes text
 text_bytes kind text = colon_bytes text
 
--- as many bytes as the field has
-abbrev pub bytes_bits : (len : ℕ) → Option (List ℕ) → Result (List Bool) Reason
-bytes_bits len None = Err reasons.NotBytes
-bytes_bits len (Some bytes) =
-    if nat_eq (8 * length bytes) len then Ok (bits_of bytes) else Err reasons.OtherLength
+-- as many bits as a text has to spell, and zeros in the rest of the field
+abbrev pub bytes_bits : (len spelled : ℕ) → Option (List ℕ) → Result (List Bool) Reason
+bytes_bits len spelled None = Err reasons.NotBytes
+bytes_bits len spelled (Some bytes) =
+    if nat_eq (8 * length bytes) spelled then Ok (bits_of bytes ++ bits (len - spelled) 0) else Err reasons.OtherLength
 
-abbrev pub text_bits : Kind → (len : ℕ) → Option (List ℕ) → Result (List Bool) Reason
-text_bits kind len None = Err reasons.NotAText
-text_bits kind len (Some text) = bytes_bits len (text_bytes kind text)
+abbrev pub text_bits : Kind → (len spelled : ℕ) → Option (List ℕ) → Result (List Bool) Reason
+text_bits kind len spelled None = Err reasons.NotAText
+text_bits kind len spelled (Some text) = bytes_bits len spelled (text_bytes kind text)
 
 -- bytes are given as a text, and all else as a number
 abbrev pub is_text : Kind → Bool
@@ -45,8 +45,9 @@ is_text kinds.Bytes = true
 is_text kinds.ProtocolAddress = true
 is_text kind = false
 
-abbrev pub given_bits : Kind → (len : ℕ) → Data → Result (List Bool) Reason
-given_bits kind len d = if is_text kind then text_bits kind len (as_str d) else number_bits len (number_of d)
+abbrev pub given_bits : Kind → (len spelled : ℕ) → Data → Result (List Bool) Reason
+given_bits kind len spelled d =
+    if is_text kind then text_bits kind len spelled (as_str d) else number_bits len (number_of d)
 
 -- ---- a field
 
@@ -57,11 +58,12 @@ absent_bits extent None = Ok []
 absent_bits extent (Some d) = Err reasons.Absent
 
 -- the value that is given, or the one that its rule says
-abbrev pub present_bits : Kind → (len : ℕ) → Option Data → (rule : ℕ) → Result (List Bool) Reason
-present_bits kind len None rule = Ok (bits len rule)
-present_bits kind len (Some d) rule = given_bits kind len d
+abbrev pub present_bits : Kind → (len spelled : ℕ) → Option Data → (rule : ℕ) → Result (List Bool) Reason
+present_bits kind len spelled None rule = Ok (bits len rule)
+present_bits kind len spelled (Some d) rule = given_bits kind len spelled d
 
--- a field of so many bits, or one that is not there
-abbrev pub field_bits : Kind → Extent → (len : Option ℕ) → Option Data → (rule : ℕ) → Result (List Bool) Reason
-field_bits kind extent None value rule = absent_bits extent value
-field_bits kind extent (Some len) value rule = present_bits kind len value rule
+-- a field with this number of bits, or one that is not there; a text spells the whole field, or as many bits as `part`
+-- says
+abbrev pub field_bits : Kind → Extent → (len part : Option ℕ) → Option Data → (rule : ℕ) → Result (List Bool) Reason
+field_bits kind extent None part value rule = absent_bits extent value
+field_bits kind extent (Some len) part value rule = present_bits kind len (unwrap_or part len) value rule

@@ -15,20 +15,21 @@ use serde_json::Value;
 use std::alloc::{AllocError, Global};
 
 /// The bits of a field of a header, or why its value is refused. If no value is given, they are those of the rule's
-/// number.
+/// number. A text spells the whole field, or the first `part` bits.
 pub fn field_bits(
     alloc: Global,
     kind: Kind,
     extent: Extent,
     len: Option<usize>,
+    part: Option<usize>,
     value: Option<&Value>,
     rule: u64,
 ) -> Result<Result<Vec<bool>, Reason>, AllocError>
     ensures { IfOk result (λ r. result_map (λ v. v.items) r
-        ≡ field_bits_in kind extent len (option_map (λ v. view v.now) value.entry) rule) }
+        ≡ field_bits_in kind extent len part (option_map (λ v. view v.now) value.entry) rule) }
 {
     match (len, value) {
-        (Some(len), Some(value)) => given_bits(alloc, kind, len, value),
+        (Some(len), Some(value)) => given_bits(alloc, kind, len, part.unwrap_or(len), value),
         (Some(len), None) => Ok(Ok(bits_of_number(alloc, len, rule)?)),
         (None, Some(_)) if extent != Extent::Computed => Ok(Err(Reason::Absent)),
         (None, _) => Ok(Ok(Vec::new(alloc))),
@@ -40,13 +41,14 @@ fn given_bits(
     alloc: Global,
     kind: Kind,
     len: usize,
+    spelled: usize,
     value: &Value,
 ) -> Result<Result<Vec<bool>, Reason>, AllocError>
-    ensures { IfOk result (λ r. result_map (λ v. v.items) r ≡ given_bits_in kind len (view value.now)) }
+    ensures { IfOk result (λ r. result_map (λ v. v.items) r ≡ given_bits_in kind len spelled (view value.now)) }
 {
     if is_text(kind) {
         match value.as_str() {
-            Some(text) => text_bits(alloc, kind, len, text.as_bytes()),
+            Some(text) => text_bits(alloc, kind, len, spelled, text.as_bytes()),
             None => Ok(Err(Reason::NotAText)),
         }
     } else {
@@ -64,23 +66,26 @@ fn is_text(kind: Kind) -> bool
     matches!(kind, Kind::Bytes | Kind::ProtocolAddress)
 }
 
-/// The bits of the bytes that a text spells.
+/// The bits of the bytes that a text spells, and zeros in the rest of the field.
 fn text_bits(
     alloc: Global,
     kind: Kind,
     len: usize,
+    spelled: usize,
     text: &[u8],
 ) -> Result<Result<Vec<bool>, Reason>, AllocError>
-    ensures { IfOk result (λ r. result_map (λ v. v.items) r ≡ bytes_bits_in len (text_bytes_in kind text.now)) }
+    ensures { IfOk result (λ r. result_map (λ v. v.items) r
+        ≡ bytes_bits_in len spelled (text_bytes_in kind text.now)) }
 {
     let Some(bytes) = text_bytes(alloc, kind, text)? else {
         return Ok(Err(Reason::NotBytes));
     };
-    if !is_as_long(&bytes, len) {
+    if !is_as_long(&bytes, spelled) {
         return Ok(Err(Reason::OtherLength));
     }
     let mut bits = Vec::new(alloc);
     push_bytes(&mut bits, &bytes)?;
+    push_bits(&mut bits, len.saturating_sub(spelled), 0)?;
     Ok(Ok(bits))
 }
 

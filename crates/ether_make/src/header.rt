@@ -2,7 +2,7 @@
 ghost use Rattle.std.specs.Prelude.{◌≡◌, map};
 ghost use Rattle.serde_json.specs.View.{view};
 ghost use Rattle.ether_fields.specs.Fields.{field_view};
-ghost use Rattle.ether_make.specs.Headers.{section_named as section_named_in, section_in as section_in_object, next_in, announced as announced_in, rule as rule_in, field_meaning as field_meaning_in, fields_meaning as fields_meaning_in, header_bits as header_bits_in, header_bytes as header_bytes_in, headers_bytes as headers_bytes_in};
+ghost use Rattle.ether_make.specs.Headers.{section_named as section_named_in, section_in as section_in_object, next_in, announced as announced_in, rule as rule_in, part as part_in, field_meaning as field_meaning_in, fields_meaning as fields_meaning_in, header_bits as header_bits_in, header_bytes as header_bytes_in, headers_bytes as headers_bytes_in};
 ghost use Rattle.ether_make.specs.Bits.{packed};
 ghost use Rattle.ether_make.specs.Refusals.{Tells, result_map};
 
@@ -10,13 +10,13 @@ use crate::bits::pack;
 use crate::field_bits::field_bits;
 use crate::objects::{given, unknown_member};
 use crate::refusal::{Fault, Reason, Refusal};
-use crate::sizes::{len_of, sizes_of};
-use ether_fields::{Field, Section, Sizes};
+use crate::sizes::{Lengths, len_of, lengths_of};
+use ether_fields::{Field, Section};
 use serde_json::Value;
 use std::alloc::Global;
 
 /// The headers that are made.
-static MADE: [Section; 3] = [Section::Eth, Section::Vlan, Section::Arp];
+static MADE: [Section; 4] = [Section::Eth, Section::Vlan, Section::Macsec, Section::Arp];
 
 /// The header that an object names.
 pub fn section_in(object: &Value) -> Result<Section, Reason>
@@ -54,22 +54,35 @@ fn announced(next: Option<Section>) -> u64
 {
     match next {
         Some(Section::Vlan) => 0x8100,
+        Some(Section::Macsec) => 0x88E5,
         Some(Section::Arp) => 0x0806,
         _ => 0,
     }
 }
 
 /// The value of a field that is not given.
-fn rule(sizes: &Sizes, next: Option<Section>, row: u32) -> u64
-    ensures { result ≡ rule_in sizes.now next row }
+fn rule(lengths: &Lengths, next: Option<Section>, row: u32) -> u64
+    ensures { result ≡ rule_in lengths.now next row }
 {
     match row {
-        3 | 12 => announced(next),
-        25 | 29 => 1,
+        3 | 8 | 12 | 24 | 35 => announced(next),
+        5 | 25 | 29 | 38 => 1,
+        6 | 40 => lengths.address,
+        15 => u64::from(lengths.sizes.has_sci),
         26 => 0x0800,
-        27 => u64::from(sizes.hardware / 8),
-        28 => u64::from(sizes.protocol / 8),
+        27 => u64::from(lengths.sizes.hardware / 8),
+        28 => u64::from(lengths.sizes.protocol / 8),
         _ => 0,
+    }
+}
+
+/// How many bits of a field a text spells, if these are not all.
+fn part(lengths: &Lengths, row: u32) -> Option<usize>
+    ensures { result ≡ part_in lengths.now row }
+{
+    match row {
+        7 | 41 => Some(8 * lengths.address.min(8) as usize),
+        _ => None,
     }
 }
 
@@ -77,22 +90,23 @@ fn rule(sizes: &Sizes, next: Option<Section>, row: u32) -> u64
 fn field_meaning<'v>(
     alloc: Global,
     at: usize,
-    sizes: &Sizes,
+    lengths: &Lengths,
     next: Option<Section>,
     object: &'v Value,
     field: &'static Field,
 ) -> Result<Vec<bool>, Fault<'v>>
-    ensures { Tells (λ v. v.items) (field_meaning_in at sizes.now next (view object.now) (field_view field.now)) result }
+    ensures { Tells (λ v. v.items) (field_meaning_in at lengths.now next (view object.now) (field_view field.now)) result }
 {
     let value = given(object, field.name);
-    let len = len_of(field.extent, sizes);
+    let len = len_of(field.extent, &lengths.sizes);
     match field_bits(
         alloc,
         field.kind,
         field.extent,
         len,
+        part(lengths, field.number),
         value,
-        rule(sizes, next, field.number),
+        rule(lengths, next, field.number),
     ) {
         Ok(Ok(bits)) => Ok(bits),
         Ok(Err(reason)) => Err(Fault::Refused(Refusal {
@@ -108,17 +122,17 @@ fn field_meaning<'v>(
 fn fields_meaning<'v>(
     alloc: Global,
     at: usize,
-    sizes: &Sizes,
+    lengths: &Lengths,
     next: Option<Section>,
     object: &'v Value,
     fields: &'static [Field],
 ) -> Result<Vec<bool>, Fault<'v>>
     ensures { Tells (λ v. v.items)
-        (fields_meaning_in at sizes.now next (view object.now) (map field_view fields.now)) result }
+        (fields_meaning_in at lengths.now next (view object.now) (map field_view fields.now)) result }
 {
     let mut bits = Vec::new(alloc);
     for field in fields {
-        match field_meaning(alloc, at, sizes, next, object, field) {
+        match field_meaning(alloc, at, lengths, next, object, field) {
             Ok(more) => {
                 if bits.extend_from_slice(&more).is_err() {
                     return Err(Fault::Memory);
@@ -147,7 +161,14 @@ fn header_bits<'v>(
             reason: Reason::Unknown,
         }));
     }
-    fields_meaning(alloc, at, &sizes_of(object), next, object, section.fields())
+    fields_meaning(
+        alloc,
+        at,
+        &lengths_of(object),
+        next,
+        object,
+        section.fields(),
+    )
 }
 
 /// The bytes of a header.

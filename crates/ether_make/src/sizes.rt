@@ -1,23 +1,75 @@
 //! How many bits a header has in the fields whose length is not the same in each header.
 ghost use Rattle.std.specs.Prelude.{◌≡◌, ◌/◌, ◌+◌, length};
+ghost use Rattle.std.specs.Option.{option_and_then};
 ghost use Rattle.serde_json.specs.View.{view};
+ghost use Rattle.ether_make.specs.Objects.{given as given_in, number_of as number_in};
 ghost use Rattle.ether_fields.specs.Places.{bits_of};
 ghost use Rattle.ether_fields.specs.declared.part.Part.TheVariants.{Header};
-ghost use Rattle.ether_make.specs.Sizes.{text_size as text_size_in, address_size as address_size_in, given_size as given_size_in, size as size_in, is_zero as is_zero_in, sizes_of as sizes_of_in};
+ghost use Rattle.ether_make.specs.Sizes.{text_size as text_size_in, address_size as address_size_in, given_size as given_size_in, size as size_in, is_zero as is_zero_in, has_sci as has_sci_in, sizes_of as sizes_of_in, address_len as address_len_in, lengths_of as lengths_of_in};
 
 use crate::field_bits::has_dot;
 use crate::objects::{given, number_of};
 use ether_fields::{Extent, Sizes};
 use serde_json::Value;
 
+/// What an object says of the lengths of the fields of its header.
+#[derive(Clone, Copy, PartialEq, Eq, Debug)]
+pub struct Lengths {
+    /// The bits of the fields that do not have the same number of bits in each header.
+    pub sizes: Sizes,
+    /// The length of the address of a cooked capture, in bytes. May exceed the 8 bytes of its field.
+    pub address: u64,
+}
+
 /// Those of the header that an object means.
-pub fn sizes_of(object: &Value) -> Sizes
+pub fn lengths_of(object: &Value) -> Lengths
+    ensures { result ≡ lengths_of_in (view object.now) }
+{
+    Lengths {
+        sizes: sizes_of(object),
+        address: address_len(object),
+    }
+}
+
+/// The length of the address of a cooked capture.
+fn address_len(object: &Value) -> u64
+    ensures { result ≡ address_len_in (view object.now) }
+{
+    if let Some(len) = given_number(object, "addr_len") {
+        return len;
+    }
+    match address_size(object, "addr") {
+        Some(size) => u64::from(size),
+        None => 6,
+    }
+}
+
+/// A number that is given.
+fn given_number(object: &Value, name: &str) -> Option<u64>
+    ensures { result ≡ option_and_then number_in (given_in name.now (view object.now)) }
+{
+    number_of(given(object, name)?)
+}
+
+/// Whether a SecTag has an SCI: if its SC bit says so, or if that bit is missing and an SCI is given.
+fn has_sci(object: &Value) -> bool
+    ensures { result ≡ has_sci_in (view object.now) }
+{
+    if given(object, "sc").is_some() {
+        !is_zero(object, "sc")
+    } else {
+        given(object, "sci").is_some()
+    }
+}
+
+/// The bits of the fields that do not have the same number of bits in each header.
+fn sizes_of(object: &Value) -> Sizes
     ensures { result ≡ sizes_of_in (view object.now) }
 {
     Sizes {
         hardware: 8 * u16::from(size(object, "hln", "sha", "tha", 6)),
         protocol: 8 * u16::from(size(object, "pln", "spa", "tpa", 4)),
-        has_sci: given(object, "sci").is_some(),
+        has_sci: has_sci(object),
         has_payload_type: is_zero(object, "e") && is_zero(object, "c"),
     }
 }

@@ -7,6 +7,6 @@ use Rattle.ether_make.proofs.header.fields_meaning.Given as goal
 
 abbrev pub invariant-loop-field : goal.invariant-loop-field
 invariant-loop-field l =
-    fields_meaning l.at l.sizes l.next (view l.object) (map field_view l.fields)
+    fields_meaning l.at l.lengths l.next (view l.object) (map field_view l.fields)
     ≡ result_map (λ more. l.bits.items ++ more)
-    (fields_meaning l.at l.sizes l.next (view l.object) (map field_view (drop l.field-index l.fields)))
+    (fields_meaning l.at l.lengths l.next (view l.object) (map field_view (drop l.field-index l.fields)))
