@@ -10,6 +10,7 @@ captures with what tshark reads in them. The last line is 'N passed, M failed'.
 import argparse
 import json
 import os
+import resource
 import shutil
 import struct
 import subprocess
@@ -18,26 +19,26 @@ from dataclasses import dataclass
 
 from programs import count
 
-FILE_HEADER = struct.pack("<IHHIIII", 0xA1B23C4D, 2, 4, 0, 0, 262_144, 1)
-
 
 @dataclass
 class Frame:
-    """Lines, and the frames that they mean."""
+    """Lines, and the frames that they mean, which have a link type (1, 113 and 276 of the tcpdump group)."""
 
     name: str
     lines: str
     frames: list
+    link: int = 1
 
 
 @dataclass
 class Refused:
-    """Lines, what the program says of them after its name, and the exit status."""
+    """Lines, what the program says of them after its name, and the frames of the lines before that one."""
 
     name: str
     lines: str
     said: str
-    status: int = 3
+    frames: tuple = ()
+    link: int = 1
 
 
 def line(*headers, **members):
@@ -90,6 +91,28 @@ FRAMES = [
                rest={"bytes": "".join(f"{byte:02x}" for byte in range(0x0F, 0x35)) + "0001" "f09478a9b09007d06f46e9b6a1da25dd"}),
           ["d609b1f056637a0d46df998d88e5222ab2c2846512153524c0895e8108000f101112131415161718191a1b1c1d1e1f202122232425262728292a2b2c2d2e2f30313233340001"
            "f09478a9b09007d06f46e9b6a1da25dd"]),
+    # LINKTYPE_LINUX_SLL: packet type, ARPHRD type, length of the address, eight bytes of it, protocol
+    Frame("a cooked header with nothing given", line({"header": "sll"}), ["0000" "0001" "0006" "0000000000000000" "0000"], 113),
+    Frame("a cooked header", line({"header": "sll", "packet_type": 4, "hw_type": 1, "addr_len": 6, "addr": "02:00:00:00:00:01", "protocol": 2048}),
+          ["0004" "0001" "0006" "0200000000010000" "0800"], 113),
+    Frame("the length of an address", line({"header": "sll", "addr": "0a:0b:0c"}), ["0000" "0001" "0003" "0a0b0c0000000000" "0000"], 113),
+    Frame("no address", line({"header": "sll", "hw_type": 772, "addr_len": 0, "addr": ""}), ["0000" "0304" "0000" "0000000000000000" "0000"], 113),
+    Frame("an address of 20 bytes, cut off", line({"header": "sll", "hw_type": 32, "addr_len": 20, "addr": "01:02:03:04:05:06:07:08"}),
+          ["0000" "0020" "0014" "0102030405060708" "0000"], 113),
+    Frame("an address of 300 bytes, cut off", line({"header": "sll", "addr_len": 300, "addr": "01:02:03:04:05:06:07:08"}),
+          ["0000" "0001" "012c" "0102030405060708" "0000"], 113),
+    Frame("a cooked header before a tag", line({"header": "sll"}, {"header": "vlan", "vid": 5}),
+          ["0000" "0001" "0006" "0000000000000000" "8100" "0005" "0000"], 113),
+    # LINKTYPE_LINUX_SLL2: protocol, 16 bits of 0, interface index, ARPHRD type, packet type, length of the address, eight bytes of it
+    Frame("a cooked header of version 2 with nothing given", line({"header": "sll2"}),
+          ["0000" "0000" "00000000" "0001" "00" "06" "0000000000000000"], 276),
+    Frame("a cooked header of version 2",
+          line({"header": "sll2", "protocol": 2054, "if_index": 7, "hw_type": 1, "packet_type": 1, "addr_len": 6, "addr": "02:00:00:00:00:01"}),
+          ["0806" "0000" "00000007" "0001" "01" "06" "0200000000010000"], 276),
+    Frame("a cooked header of version 2 before ARP", line({"header": "sll2", "addr": "01:02:03:04:05:06:07:08", "reserved": 1}, {"header": "arp"}, link=276),
+          ["0806" "0001" "00000000" "0001" "00" "08" "0102030405060708" "0001" "0800" "06" "04" "0001" + "00" * 20], 276),
+    Frame("a link type without headers", line(link=105, rest={"bytes": "08"}), ["08"], 105),
+    Frame("frames of one link type", line(link=276) + line({"header": "sll2", "addr_len": 0}), ["", "00" * 8 + "0001" "00" "00" + "00" * 8], 276),
     Frame("bytes after the headers", line({**ETH, "type": 2048}, rest={"kind": "ether_type", "type": 2048, "bytes": "4500001C"}),
           [ADDRESSES + "0800" "4500001c"]),
     Frame("a rest without bytes", line(ETH, rest={"start": 14, "end": 60, "kind": "ether_type", "type": None}), [ADDRESSES + "0000"]),
@@ -106,7 +129,8 @@ REFUSED = [
     Refused("headers that are no array", '{"headers":{}}\n', "line 1: headers is no array"),
     Refused("an unknown member", '{"headers":[],"head":1}\n', "line 1: head is no member of this object"),
     Refused("a fault", '{"fault":{},"headers":[]}\n', "line 1: fault is no member of this object"),
-    Refused("the line's number counts empty lines", line(ETH) + "\n" + "x\n", "line 3: this is no JSON text"),
+    Refused("the line's number counts empty lines", line(ETH) + "\n" + "x\n", "line 3: this is no JSON text", (ADDRESSES + "0000",)),
+    Refused("nothing is read after a line that is refused", line(ETH) + "x\n" + line(ETH), "line 2: this is no JSON text", (ADDRESSES + "0000",)),
     Refused("no name of a header", line({"dst": "ff:ff:ff:ff:ff:ff"}), "line 1: header 0: header is missing"),
     Refused("a name that is no text", line({"header": 5}), "line 1: header 0: header is no text"),
     Refused("an unknown header", line(ETH, {"header": "ipv4"}), "line 1: header 1: header names no header that is made"),
@@ -148,6 +172,45 @@ REFUSED = [
     Refused("reserved bits above 3", line(ETH, {"header": "macsec", "reserved": 4}), "line 1: header 1: reserved has more bits than the field"),
     Refused("a flag that is true", line(ETH, {"header": "macsec", "es": True}), "line 1: header 1: es is no number from 0 on"),
     Refused("a SecTag first", line({"header": "macsec"}), "line 1: header 0: header names a header that begins no frame"),
+    Refused("an address of another length", line({"header": "sll", "addr_len": 6, "addr": "02:00:00:00:00:00:00:01"}),
+            "line 1: header 0: addr has another number of bytes than the field"),
+    Refused("an address that is longer than its field", line({"header": "sll", "addr": "01:02:03:04:05:06:07:08:09"}),
+            "line 1: header 0: addr has another number of bytes than the field"),
+    Refused("an address without its length", line({"header": "sll", "addr_len": 0, "addr": "02:00:00:00:00:01"}),
+            "line 1: header 0: addr has another number of bytes than the field"),
+    Refused("half of a long address", line({"header": "sll2", "addr_len": 20, "addr": "02:00:00:00:00:01"}),
+            "line 1: header 0: addr has another number of bytes than the field"),
+    Refused("an address with spaces", line({"header": "sll", "addr": "02 00"}), "line 1: header 0: addr spells no bytes"),
+    Refused("an address that is an array", line({"header": "sll", "addr": [2]}), "line 1: header 0: addr is no text"),
+    Refused("a length that is a text", line({"header": "sll", "addr_len": "6"}), "line 1: header 0: addr_len is no number from 0 on"),
+    Refused("a length with 17 bits", line({"header": "sll", "addr_len": 65536}), "line 1: header 0: addr_len has more bits than the field"),
+    Refused("a length with 9 bits", line({"header": "sll2", "addr_len": 256}), "line 1: header 0: addr_len has more bits than the field"),
+    Refused("a packet type with 17 bits", line({"header": "sll", "packet_type": 65536}), "line 1: header 0: packet_type has more bits than the field"),
+    Refused("a packet type with 9 bits", line({"header": "sll2", "packet_type": 256}), "line 1: header 0: packet_type has more bits than the field"),
+    Refused("an interface index with 33 bits", line({"header": "sll2", "if_index": 1 << 32}), "line 1: header 0: if_index has more bits than the field"),
+    Refused("a hardware type with 17 bits", line({"header": "sll2", "hw_type": 65536}), "line 1: header 0: hw_type has more bits than the field"),
+    Refused("a protocol with 17 bits", line({"header": "sll", "protocol": 65536}), "line 1: header 0: protocol has more bits than the field"),
+    Refused("an interface of version 1", line({"header": "sll", "if_index": 1}), "line 1: header 0: if_index is no member of this object"),
+    Refused("a type of a cooked header", line({"header": "sll", "type": 2048}), "line 1: header 0: type is no member of this object"),
+    Refused("ARP first", line({"header": "arp"}), "line 1: header 0: header names a header that begins no frame"),
+    Refused("a section that is no header", line({"header": "frame"}), "line 1: header 0: header names no header that is made"),
+    Refused("a name in upper case", line({"header": "ETH"}), "line 1: header 0: header names no header that is made"),
+    Refused("a link type of another header", line(ETH, link=113), "line 1: link is not the link type of the first header"),
+    Refused("a link type of no header", line(ETH, link=0), "line 1: link is not the link type of the first header"),
+    Refused("a link type that is a text", line(ETH, link="1"), "line 1: link is no number from 0 on"),
+    Refused("a link type with 17 bits", line(link=65536), "line 1: link has more bits than the field"),
+    Refused("a cooked frame after one of Ethernet", line(ETH) + line({"header": "sll"}), "line 2: link is not the link type of the frames before",
+            (ADDRESSES + "0000",)),
+    Refused("version 2 after version 1", line({"header": "sll"}) + line({"header": "sll2"}), "line 2: link is not the link type of the frames before",
+            ("0000" "0001" "0006" "0000000000000000" "0000",), 113),
+    Refused("another link type without headers", line() + line(link=113), "line 2: link is not the link type of the frames before", ("",)),
+    Refused("headers that are a text", '{"headers":"eth"}\n', "line 1: headers is no array"),
+    Refused("a header that is a text", '{"headers":["eth"]}\n', "line 1: header 0: header is missing"),
+    Refused("two values in a line", "{} {}\n", "line 1: this is no JSON text"),
+    Refused("an object over two lines", '{"headers":\n[]}\n', "line 1: this is no JSON text"),
+    Refused("a comment", "// []\n", "line 1: this is no JSON text"),
+    Refused("a number in hexadecimal", '{"headers":[{"header":"eth","type":0x800}]}\n', "line 1: this is no JSON text"),
+    Refused("a line of spaces", "  \n", "line 1: this is no JSON text"),
     Refused("a check sequence", line({**ETH, "fcs": "00:00:00:00"}), "line 1: header 0: fcs is a field that this header does not have"),
     Refused("a rest that is no object", line(ETH, rest=5), "line 1: rest is no object"),
     Refused("a member of the rest", line(ETH, rest={"text": ""}), "line 1: text is no member of this object"),
@@ -163,9 +226,9 @@ def made(program, lines):
     return done.stdout, done.stderr.decode(), done.returncode
 
 
-def capture_of(frames):
+def capture_of(frames, link=1):
     """A capture with times of 0 (draft-ietf-opsawg-pcap, sections 4 and 5)."""
-    return FILE_HEADER + b"".join(struct.pack("<IIII", 0, 0, len(frame), len(frame)) + frame for frame in frames)
+    return struct.pack("<IHHIIII", 0xA1B23C4D, 2, 4, 0, 0, 262_144, link) + b"".join(struct.pack("<IIII", 0, 0, len(frame), len(frame)) + frame for frame in frames)
 
 
 def frames_of(capture):
@@ -179,14 +242,27 @@ def frames_of(capture):
 
 def frame_cases(program):
     for case in FRAMES:
-        yield case.name, made(program, case.lines), (capture_of([bytes.fromhex(it) for it in case.frames]), "", 0)
+        yield case.name, made(program, case.lines), (capture_of([bytes.fromhex(it) for it in case.frames], case.link), "", 0)
     longest = line(ETH, rest={"bytes": "00" * (262_144 - 14)})
     yield "the longest frame", made(program, longest), (capture_of([bytes.fromhex(ADDRESSES + "0000") + bytes(262_130)]), "", 0)
 
 
+def memory_cases(program):
+    """Many lines take the memory of one."""
+    def limited():
+        resource.setrlimit(resource.RLIMIT_AS, (8 << 20, 8 << 20))
+
+    count_of_lines = 100_000
+    lines = line(ETH, {"header": "vlan", "vid": 5}, {"header": "arp"}).encode() * count_of_lines
+    done = subprocess.run([program], input=lines, capture_output=True, check=False, preexec_fn=limited)
+    frame = bytes.fromhex(ADDRESSES + "8100" "0005" "0806" "0001" "0800" "06" "04" "0001" + "00" * 20)
+    yield "100,000 lines in 8 MiB", (hash(done.stdout), done.stderr, done.returncode), (hash(capture_of([frame] * count_of_lines)), b"", 0)
+
+
 def refused_cases(program):
     for case in REFUSED:
-        yield case.name, made(program, case.lines), (b"", f"ether_make: {case.said}\n", case.status)
+        before = capture_of([bytes.fromhex(it) for it in case.frames], case.link)
+        yield case.name, made(program, case.lines), (before, f"ether_make: {case.said}\n", 3)
 
 
 def word_cases(program):
@@ -228,11 +304,12 @@ def tshark_cases(program):
     if not shutil.which("tshark"):
         print("without tshark")
         return
-    lines = "".join(case.lines.rstrip("\n") + "\n" for case in FRAMES)
+    ethernet = [case for case in FRAMES if case.link == 1]
+    lines = "".join(case.lines.rstrip("\n") + "\n" for case in ethernet)
     words = ["tshark", "-r", "-", "-T", "fields", "-e", "frame.len", "-e", "eth.src", "-e", "vlan.id", "-e", "arp.dst.proto_ipv4"]
     capture = made(program, lines)[0]
     read = subprocess.run(words, input=capture, capture_output=True, check=False)
-    yield "tshark's frames", len(read.stdout.splitlines()), sum(len(case.frames) for case in FRAMES)
+    yield "tshark's frames", len(read.stdout.splitlines()), sum(len(case.frames) for case in ethernet)
     request = made(program, FRAMES[10].lines)[0]
     read = subprocess.run(words, input=request, capture_output=True, check=False)
     yield "tshark's ARP request", read.stdout.decode(), "42\t02:00:00:00:00:01\t\t10.9.0.2\n"
@@ -246,7 +323,7 @@ def main():
     words.add_argument("program", metavar="PROGRAM")
     words.add_argument("word", metavar="WORD", nargs="?", default="")
     given = words.parse_args()
-    cases = [*frame_cases(given.program), *refused_cases(given.program), *word_cases(given.program),
+    cases = [*frame_cases(given.program), *memory_cases(given.program), *refused_cases(given.program), *word_cases(given.program),
              *scapy_cases(given.program), *tshark_cases(given.program)]
     return count((name, got, wanted) for name, got, wanted in cases if given.word in name)
 

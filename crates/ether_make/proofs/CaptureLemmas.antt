@@ -1,122 +1,134 @@
 -- Records, one after another.
-use Rattle.std.proofs.Common.{◌≡◌, ℕ, ◌+◌, ◌<◌, ◌≤◌, List, [], ◌∷◌, ◌++◌, length, drop, map, get_or, Vec, Global, Option, Result, Ok, Err, Bool, true, false, nat_lt, if◌then◌else◌, refl, sym, ap, subst, ◌∙◌, append_assoc}
-use Rattle.std.proofs.lemmas.List.{drop_more, drop_all, append-nil}
+use Rattle.std.proofs.Common.{◌≡◌, ℕ, ◌≤◌, List, [], ◌∷◌, ◌++◌, length, map, Option, Some, None, is_some, true≢false, refl, sym, ap, subst, ◌∙◌, append_assoc}
+use Rattle.std.proofs.lemmas.List.{append-nil, map-append}
 use Rattle.ether_pcap.specs.Numbers.{LittleEndian}
-use Rattle.ether_pcap.specs.Record.{max_captured_len}
-use Rattle.ether_pcap.specs.Writing.{WritesFileHeader, WritesRecords, none, more}
-use Rattle.std.proofs.lemmas.Bool.{ltb-false}
-use Rattle.ether_make.specs.Frames.{frame_bytes}
-use Rattle.ether_make.specs.Refusals.{Meaning}
-use Rattle.ether_make.specs.Lines.{LineRefusal, LineMeans, LinesMean, TooLong, longest, object, not_json, sized}
-use Rattle.ether_make.specs.Lines as meant
-use Rattle.ether_make.specs.Captures.{AllFit, IsCaptureOf, PushesRecord, header_of_capture, record_of}
+use Rattle.ether_pcap.specs.Record.{RecordValue, max_captured_len}
+use Rattle.ether_pcap.specs.Writing.{WritesRecordHeader, WritesRecords, none, more}
+use Rattle.ether_make.specs.Frames.{FrameValue}
+use Rattle.std.proofs.KnownBytes.{Appends-nil, Appends-trans, Appends-kept}
+use Rattle.std.specs.Io.KnownBytes.{Appends, Keeps}
+use Rattle.ether_make.specs.Lines.{linked}
+use Rattle.ether_make.specs.Captures.{WritesPart, Grows, Ends, IsHeaderOf, IsRecordOf, IsCaptureOf, IsTheCapture, IsBegun, nothing, some, record_of}
 
--- some frames of a list are written, and the others are not
-pub record UnderWay (frames later : List (List ℕ)) (bytes : List ℕ) : Type 0 where
-  pub header : List ℕ
-  pub records : List ℕ
-  pub header_len : length header ≡ 24
-  pub writes_header : WritesFileHeader header header_of_capture
-  pub whole : bytes ≡ header ++ records
-  pub fit : AllFit later
-  pub writes : (others : List ℕ) → WritesRecords LittleEndian others (map record_of later)
-      → WritesRecords LittleEndian (records ++ others) (map record_of frames)
+-- one record more at the end
+records-more : (bs header : List ℕ) (r : RecordValue) (rs : List RecordValue) → length header ≡ 16
+    → WritesRecordHeader LittleEndian header r → length r.packet ≤ max_captured_len → WritesRecords LittleEndian bs rs
+    → WritesRecords LittleEndian (bs ++ (header ++ r.packet)) (rs ++ r ∷ [])
+records-more bs header r rs len writes fits none =
+    subst (λ (b : List ℕ). WritesRecords LittleEndian b (r ∷ [])) (append-nil (header ++ r.packet))
+    (more header [] r [] len writes fits none)
+records-more bs header r rs len writes fits (more h b q qs l w f later) =
+    subst (λ (b : List ℕ). WritesRecords LittleEndian b (q ∷ (qs ++ r ∷ [])))
+    (sym (append_assoc (h ++ q.packet) b (header ++ r.packet)))
+    (more h (b ++ (header ++ r.packet)) q (qs ++ r ∷ []) l w f (records-more b header r qs len writes fits later))
 
-pub under_way-begin : (frames : List (List ℕ)) (header : List ℕ) → length header ≡ 24
-    → WritesFileHeader header header_of_capture
-    → AllFit frames → UnderWay frames frames header
-under_way-begin frames header len writes fit = record {
+record-more : (bs bytes : List ℕ) (frame : FrameValue) (rs : List RecordValue) → length frame.packet ≤ max_captured_len
+    → IsRecordOf frame bytes → WritesRecords LittleEndian bs rs
+    → WritesRecords LittleEndian (bs ++ bytes) (rs ++ record_of frame ∷ [])
+record-more bs bytes frame rs fits is h =
+    subst (λ (b : List ℕ). WritesRecords LittleEndian (bs ++ b) (rs ++ record_of frame ∷ [])) (sym is.whole)
+    (records-more bs is.header (record_of frame) rs is.header_len is.writes fits h)
+
+capture-more : (link : ℕ) (frames : List FrameValue) (frame : FrameValue) (bytes one : List ℕ)
+    → length frame.packet ≤ max_captured_len → IsRecordOf frame one → IsCaptureOf link frames bytes
+    → IsCaptureOf link (frames ++ frame ∷ []) (bytes ++ one)
+capture-more link frames frame bytes one fits is c = record {
+  header = c.header;
+  records = c.records ++ one;
+  is_header = c.is_header;
+  writes_records =
+      subst (λ (rs : List RecordValue). WritesRecords LittleEndian (c.records ++ one) rs)
+      (sym (map-append record_of frames (frame ∷ [])))
+      (record-more c.records one frame (map record_of frames) fits is c.writes_records);
+  whole = ap (λ b. b ++ one) c.whole ∙ append_assoc c.header c.records one;
+}
+
+grows-first : (frame : FrameValue) (header one : List ℕ) → length frame.packet ≤ max_captured_len
+    → IsHeaderOf frame.link header → IsRecordOf frame one → (frames : List FrameValue) (bytes : List ℕ)
+    → IsBegun None frames bytes → IsBegun (Some frame.link) (frames ++ frame ∷ []) (bytes ++ (header ++ one))
+grows-first frame header one fits h is frames bytes nothing =
+    some frame [] (header ++ one) (record {
+      header = header;
+      records = one;
+      is_header = h;
+      writes_records = record-more [] one frame [] fits is none;
+      whole = refl;
+    })
+
+grows-later : (link : ℕ) (frame : FrameValue) (one : List ℕ) → length frame.packet ≤ max_captured_len
+    → IsRecordOf frame one → (frames : List FrameValue) (bytes : List ℕ) → IsBegun (Some link) frames bytes
+    → IsBegun (Some link) (frames ++ frame ∷ []) (bytes ++ one)
+grows-later link frame one fits is frames bytes (some f fs b c) =
+    some f (fs ++ frame ∷ []) (b ++ one) (capture-more f.link (f ∷ fs) frame b one fits is c)
+
+ends-first : (header : List ℕ) → IsHeaderOf 1 header → (frames : List FrameValue) (bytes : List ℕ)
+    → IsBegun None frames bytes → IsTheCapture frames (bytes ++ header)
+ends-first header h frames bytes nothing = record {
   header = header;
   records = [];
-  header_len = len;
-  writes_header = writes;
+  is_header = h;
+  writes_records = none;
   whole = sym (append-nil header);
-  fit = fit;
-  writes = λ others h. h;
 }
 
-regroup : (a header frame others : List ℕ) → a ++ ((header ++ frame) ++ others) ≡ (a ++ (header ++ frame)) ++ others
-regroup a header frame others = sym (append_assoc a (header ++ frame) others)
+ends-later : (link : ℕ) (frames : List FrameValue) (bytes : List ℕ) → IsBegun (Some link) frames bytes
+    → IsTheCapture frames (bytes ++ [])
+ends-later link frames bytes (some f fs b c) =
+    subst (λ (bs : List ℕ). IsCaptureOf f.link (f ∷ fs) bs) (sym (append-nil b)) c
 
-pub under_way-more : (frames later : List (List ℕ)) (frame before after : List ℕ)
-    → UnderWay frames (frame ∷ later) before
-    → (length frame ≤ max_captured_len → PushesRecord frame before after) → UnderWay frames later after
-under_way-more frames later frame before after u pushes =
-    let p = pushes u.fit.0 in
-    record {
-      header = u.header;
-      records = u.records ++ (p.header ++ frame);
-      header_len = u.header_len;
-      writes_header = u.writes_header;
-      whole = p.whole ∙ ap (λ b. b ++ (p.header ++ frame)) u.whole
-          ∙ append_assoc u.header u.records (p.header ++ frame);
-      fit = u.fit.1;
-      writes = λ others h.
-          subst (λ (bs : List ℕ). WritesRecords LittleEndian bs (map record_of frames))
-          (regroup u.records p.header frame others)
-          (u.writes ((p.header ++ frame) ++ others)
-          (more p.header others (record_of frame) (map record_of later) p.header_len p.writes u.fit.0 h));
-    }
+-- ---- what a writer takes
 
-pub under_way-end : (frames : List (List ℕ)) (bytes : List ℕ) → UnderWay frames [] bytes → IsCaptureOf frames bytes
-under_way-end frames bytes u = record {
-  header = u.header;
-  records = u.records;
-  header_len = u.header_len;
-  writes_header = u.writes_header;
-  writes_records =
-      subst (λ (bs : List ℕ). WritesRecords LittleEndian bs (map record_of frames)) (append-nil u.records)
-      (u.writes [] none);
-  whole = u.whole;
+pub first-grows : (link : Option ℕ) (frame : FrameValue) (held mid holds : Option (List ℕ)) → link ≡ None
+    → length frame.packet ≤ max_captured_len → WritesPart (IsHeaderOf frame.link) held mid
+    → WritesPart (IsRecordOf frame) mid holds → Grows link (linked link frame) frame held holds
+first-grows (Some l) frame held mid holds e fits h one = absurd (true≢false (ap is_some e))
+first-grows None frame held mid holds e fits h one = record {
+  more = h.part ++ one.part;
+  written = Appends-trans held mid holds h.part one.part h.written one.written;
+  begun = grows-first frame h.part one.part fits h.is_part one.is_part;
 }
 
--- ---- lengths
+pub later-grows : (link : Option ℕ) (l : ℕ) (frame : FrameValue) (held holds : Option (List ℕ)) → link ≡ Some l
+    → length frame.packet ≤ max_captured_len → WritesPart (IsRecordOf frame) held holds
+    → Grows link (linked link frame) frame held holds
+later-grows None l frame held holds e fits one = absurd (true≢false (ap is_some (sym e)))
+later-grows (Some k) l frame held holds e fits one = record {
+  more = one.part;
+  written = one.written;
+  begun = grows-later k frame one.part fits one.is_part;
+}
 
-abbrev pub FitsIfOk : Result (List ℕ) LineRefusal → Type 0
-FitsIfOk (Ok bytes) = length bytes ≤ max_captured_len
-FitsIfOk (Err r) = Unit {0}
+pub first-ends : (link : Option ℕ) (held mid holds : Option (List ℕ)) → link ≡ None
+    → WritesPart (IsHeaderOf 1) held mid → Keeps mid holds → Ends link held holds
+first-ends (Some l) held mid holds e h kept = absurd (true≢false (ap is_some e))
+first-ends None held mid holds e h kept = record {
+  more = h.part;
+  written = Appends-kept held mid holds h.part h.written kept;
+  whole = ends-first h.part h.is_part;
+}
 
-sized-at : (bytes : List ℕ) (b : Bool) → nat_lt longest (length bytes) ≡ b
-    → FitsIfOk (if b then Err TooLong else Ok bytes)
-sized-at bytes true e = tt
-sized-at bytes false e = ltb-false longest (length bytes) e
+pub later-ends : (link : Option ℕ) (l : ℕ) (held holds : Option (List ℕ)) → link ≡ Some l → Keeps held holds
+    → Ends link held holds
+later-ends None l held holds e kept = absurd (true≢false (ap is_some (sym e)))
+later-ends (Some k) l held holds e kept = record {
+  more = [];
+  written = Appends-kept held held holds [] (Appends-nil held) kept;
+  whole = ends-later k;
+}
 
-sized-fits : (m : Meaning (List ℕ)) → FitsIfOk (sized m)
-sized-fits (Ok bytes) = sized-at bytes (nat_lt longest (length bytes)) refl
-sized-fits (Err r) = tt
-
-line-fits : (text : List ℕ) (m : Result (List ℕ) LineRefusal) → LineMeans text m → FitsIfOk m
-line-fits text m (object d json) = sized-fits (frame_bytes d)
-line-fits text m (not_json h) = tt
-
-pub lines-fit : (number : ℕ) (ls fs : List (List ℕ)) (stop : Option (ℕ × LineRefusal))
-    → LinesMean number ls fs stop → AllFit fs
-lines-fit number ls fs stop (meant.none n) = tt
-lines-fit number ls fs stop (meant.empty n lines frames s h) = lines-fit (n + 1) lines frames s h
-lines-fit number ls fs stop (meant.frame n line bytes lines frames s some means h) =
-    (line-fits line (Ok bytes) means, lines-fit (n + 1) lines frames s h)
-lines-fit number ls fs stop (meant.refused n line lines r some means) = tt
-
--- ---- frames in memory
-
-items_more : (fs : List (Vec ℕ Global)) (i : ℕ) (f : Vec ℕ Global) → i < length fs → f ≡ get_or fs i f
-    → map (λ v. v.items) (drop i fs) ≡ f.items ∷ map (λ v. v.items) (drop (i + 1) fs)
-items_more fs i f h e =
-    ap (λ (vs : List (Vec ℕ Global)). map (λ v. v.items) vs) (drop_more fs i f h)
-    ∙ ap (λ (v : Vec ℕ Global). v.items ∷ map (λ w. w.items) (drop (i + 1) fs)) (sym e)
-
-pub under_way-next : (fs : List (Vec ℕ Global)) (i : ℕ) (f : Vec ℕ Global) (before after : List ℕ) → i < length fs
-    → f ≡ get_or fs i f → UnderWay (map (λ v. v.items) fs) (map (λ v. v.items) (drop i fs)) before
-    → (length f.items ≤ max_captured_len → PushesRecord f.items before after)
-    → UnderWay (map (λ v. v.items) fs) (map (λ v. v.items) (drop (i + 1) fs)) after
-under_way-next fs i f before after h e u pushes =
-    under_way-more (map (λ v. v.items) fs) (map (λ v. v.items) (drop (i + 1) fs)) f.items before after
-    (subst (λ (later : List (List ℕ)). UnderWay (map (λ v. v.items) fs) later before) (items_more fs i f h e) u) pushes
-
-pub under_way-done : (fs : List (Vec ℕ Global)) (i : ℕ) (bytes : List ℕ) → length fs ≤ i
-    → UnderWay (map (λ v. v.items) fs) (map (λ v. v.items) (drop i fs)) bytes
-    → IsCaptureOf (map (λ v. v.items) fs) bytes
-under_way-done fs i bytes h u =
-    under_way-end (map (λ v. v.items) fs) bytes
-    (subst (λ (vs : List (Vec ℕ Global)). UnderWay (map (λ v. v.items) fs) (map (λ v. v.items) vs) bytes)
-    (drop_all i fs h) u)
+pub record-part : (frame : FrameValue) (len : ℕ) (header packet : List ℕ) (held mid holds : Option (List ℕ))
+    → len ≡ length frame.packet → packet ≡ frame.packet → length header ≡ 16
+    → WritesRecordHeader LittleEndian header (record (record_of frame) { original_len = len })
+    → Appends held mid header → Appends mid holds packet → WritesPart (IsRecordOf frame) held holds
+record-part frame len header packet held mid holds e is header_len writes a b = record {
+  part = header ++ packet;
+  is_part = record {
+    header = header;
+    header_len = header_len;
+    writes =
+        subst (λ (n : ℕ). WritesRecordHeader LittleEndian header (record (record_of frame) { original_len = n })) e
+        writes;
+    whole = ap (λ p. header ++ p) is;
+  };
+  written = Appends-trans held mid holds header packet a b;
+}

@@ -5,4 +5,6 @@ pub mod HeaderLemmas
 pub mod FrameLemmas
 pub mod LineLemmas
 pub mod CaptureLemmas
+pub mod ReadLemmas
+pub mod ProgramLemmas
 pub mod WorkedExamples

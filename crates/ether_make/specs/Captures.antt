@@ -1,36 +1,72 @@
 -- The capture of frames.
-use Rattle.std.specs.Prelude.{◌≡◌, ℕ, ◌≤◌, List, [], ◌∷◌, ◌++◌, length, map, None}
+use Rattle.std.specs.Prelude.{◌≡◌, ℕ, ◌≤◌, List, [], ◌∷◌, ◌++◌, length, map, Option, Some, None}
+use Rattle.std.specs.Io.KnownBytes.{Appends}
 use Rattle.ether_pcap.specs.Numbers.{LittleEndian}
 use Rattle.ether_pcap.specs.FileHeader.{FileHeaderValue, Nanoseconds}
-use Rattle.ether_pcap.specs.Record.{RecordValue, max_captured_len}
+use Rattle.ether_pcap.specs.Record.{RecordValue}
 use Rattle.ether_pcap.specs.Writing.{WritesFileHeader, WritesRecordHeader, WritesRecords}
+use Rattle.ether_make.specs.Frames.{FrameValue}
 
--- times in nanoseconds, a snap length of 256 KiB, Ethernet (1), and no length of a check sequence
-abbrev pub header_of_capture : FileHeaderValue
-header_of_capture =
-    record { order = LittleEndian; resolution = Nanoseconds; snap_len = 262144; link_type = 1; fcs_len = None }
+-- times in nanoseconds, a snap length of 256 KiB, and no length of a check sequence
+abbrev pub header_of_capture : (link : ℕ) → FileHeaderValue
+header_of_capture link = record {
+  order = LittleEndian;
+  resolution = Nanoseconds;
+  snap_len = 262144;
+  link_type = link;
+  fcs_len = None;
+}
 
 -- a frame that is not cut, at the beginning of 1970
-abbrev pub record_of : List ℕ → RecordValue
-record_of frame = record { seconds = 0; fraction = 0; original_len = length frame; packet = frame }
+abbrev pub record_of : FrameValue → RecordValue
+record_of frame = record { seconds = 0; fraction = 0; original_len = length frame.packet; packet = frame.packet }
 
--- bytes are a file header, and a record for each of these frames, in their order
-pub record IsCaptureOf (frames : List (List ℕ)) (bytes : List ℕ) : Type 0 where
-  pub header : List ℕ
-  pub records : List ℕ
-  pub header_len : length header ≡ 24
-  pub writes_header : WritesFileHeader header header_of_capture
-  pub writes_records : WritesRecords LittleEndian records (map record_of frames)
-  pub whole : bytes ≡ header ++ records
+pub record IsHeaderOf (link : ℕ) (bytes : List ℕ) : Type 0 where
+  pub len : length bytes ≡ 24
+  pub writes : WritesFileHeader bytes (header_of_capture link)
 
--- frames that are no longer than a packet of a capture
-abbrev pub AllFit : List (List ℕ) → Type 0
-AllFit [] = Unit {0}
-AllFit (f ∷ fs) = (length f ≤ max_captured_len) × AllFit fs
-
--- the record of a frame follows some bytes
-pub record PushesRecord (frame before after : List ℕ) : Type 0 where
+-- the header of the record of a frame, and the frame
+pub record IsRecordOf (frame : FrameValue) (bytes : List ℕ) : Type 0 where
   pub header : List ℕ
   pub header_len : length header ≡ 16
   pub writes : WritesRecordHeader LittleEndian header (record_of frame)
-  pub whole : after ≡ before ++ (header ++ frame)
+  pub whole : bytes ≡ header ++ frame.packet
+
+-- bytes are a file header with this link type, and a record for each of these frames, in their order
+pub record IsCaptureOf (link : ℕ) (frames : List FrameValue) (bytes : List ℕ) : Type 0 where
+  pub header : List ℕ
+  pub records : List ℕ
+  pub is_header : IsHeaderOf link header
+  pub writes_records : WritesRecords LittleEndian records (map record_of frames)
+  pub whole : bytes ≡ header ++ records
+
+-- the capture of frames that all have the link type of the first one; without frames it is one of Ethernet
+abbrev pub IsTheCapture : (frames : List FrameValue) → (bytes : List ℕ) → Type 0
+IsTheCapture [] bytes = IsCaptureOf 1 [] bytes
+IsTheCapture (f ∷ fs) bytes = IsCaptureOf f.link (f ∷ fs) bytes
+
+-- what is written before the end: nothing before the first frame, since the file header has its link type
+pub data IsBegun : (link : Option ℕ) → (frames : List FrameValue) → (bytes : List ℕ) → Type 0 where
+  nothing : IsBegun None [] []
+  some : (f : FrameValue) (fs : List FrameValue) (bytes : List ℕ) → IsCaptureOf f.link (f ∷ fs) bytes
+      → IsBegun (Some f.link) (f ∷ fs) bytes
+
+-- a writer takes bytes that are such a part of a capture
+pub record WritesPart (IsPart : List ℕ → Type 0) (held holds : Option (List ℕ)) : Type 0 where
+  pub part : List ℕ
+  pub is_part : IsPart part
+  pub written : Appends held holds part
+
+-- a writer takes one frame more
+pub record Grows (link after : Option ℕ) (frame : FrameValue) (held holds : Option (List ℕ)) : Type 0 where
+  pub more : List ℕ
+  pub written : Appends held holds more
+  pub begun : (frames : List FrameValue) (bytes : List ℕ) → IsBegun link frames bytes
+      → IsBegun after (frames ++ frame ∷ []) (bytes ++ more)
+
+-- a writer takes what is missing at the end
+pub record Ends (link : Option ℕ) (held holds : Option (List ℕ)) : Type 0 where
+  pub more : List ℕ
+  pub written : Appends held holds more
+  pub whole : (frames : List FrameValue) (bytes : List ℕ) → IsBegun link frames bytes
+      → IsTheCapture frames (bytes ++ more)

@@ -1,22 +1,40 @@
 -- The frame that an object means.
-use Rattle.std.specs.Prelude.{ℕ, List, [], ◌∷◌, ◌++◌, codes, Option, Some, None, Ok, Err}
+use Rattle.std.specs.Prelude.{ℕ, List, [], ◌∷◌, ◌++◌, codes, Option, Some, None, unwrap_or, Result, Ok, Err, nat_eq, nat_lt, if◌then◌else◌}
+use Rattle.std.specs.Option.{option_and_then}
 use Rattle.serde_json.specs.Data.{Data, Items, Members}
 use Rattle.serde_json.specs.Find.{as_array, as_object, as_str}
 use Rattle.ether_fields.specs.declared.section.Section.{Section}
-use Rattle.ether_fields.specs.declared.section.Section.TheVariants.{Frame, Eth, Rest}
-use Rattle.ether_make.specs.declared.refusal.Reason.TheVariants.{Missing, NotAnArray, NotAnObject, NotAText, NotBytes, NotALink}
-use Rattle.ether_make.specs.Headers.{headers_bytes, names, next_in, unless_unknown}
-use Rattle.ether_make.specs.Objects.{given, listed, unknown_member}
+use Rattle.ether_fields.specs.declared.section.Section.TheVariants.{Frame, Eth, Sll, Sll2, Rest}
+use Rattle.ether_make.specs.declared.refusal.Reason.{Reason}
+use Rattle.ether_make.specs.declared.refusal.Reason.TheVariants.{Missing, NotANumber, NotAnArray, NotAnObject, NotAText, NotBytes, NotALink, TooBig, OtherHeader}
+use Rattle.ether_make.specs.Headers.{headers_bytes, names, next_in, told, unless_unknown}
+use Rattle.ether_make.specs.Objects.{given, listed, number_of, unknown_member}
 use Rattle.ether_make.specs.Refusals.{Meaning, refused, joined}
 use Rattle.ether_make.specs.Texts.{hex_bytes}
 
+-- a frame: the link type of its capture, and its bytes
+pub record FrameValue : Type 0 where
+  pub link : ℕ
+  pub packet : List ℕ
+
 -- ---- its headers
 
--- A frame begins with Ethernet II, if it has headers. An object that names no header is refused with its header.
+-- the link type of frames that begin with a header: LINKTYPE_ETHERNET, LINKTYPE_LINUX_SLL and LINKTYPE_LINUX_SLL2 of
+-- the tcpdump group
+abbrev pub link_of : Section → Option ℕ
+link_of Eth = Some 1
+link_of Sll = Some 113
+link_of Sll2 = Some 276
+link_of section = None
+
+abbrev pub unless_not_first : Option ℕ → Meaning (List ℕ) → Meaning (List ℕ)
+unless_not_first None meaning = Err (refused (Some 0) (codes "header") NotALink)
+unless_not_first (Some link) meaning = meaning
+
+-- The first header has a link type. An object that names no header is refused with its header.
 abbrev pub unless_no_link : (first : Option Section) → Meaning (List ℕ) → Meaning (List ℕ)
 unless_no_link None meaning = meaning
-unless_no_link (Some Eth) meaning = meaning
-unless_no_link (Some section) meaning = Err (refused (Some 0) (codes "header") NotALink)
+unless_no_link (Some section) meaning = unless_not_first (link_of section) meaning
 
 abbrev pub front_of : List Data → Meaning (List ℕ)
 front_of ds = unless_no_link (next_in ds) (headers_bytes 0 ds)
@@ -55,6 +73,34 @@ abbrev pub rest : Option Data → Meaning (List ℕ)
 rest None = Ok []
 rest (Some d) = rest_in d (as_object d)
 
+-- ---- its link type
+
+abbrev pub first_in : Option Items → Option Section
+first_in None = None
+first_in (Some ds) = next_in (listed ds)
+
+-- the first header
+abbrev pub first_header : (headers : Option Data) → Option Section
+first_header headers = first_in (option_and_then as_array headers)
+
+-- that of the first header, or Ethernet
+abbrev pub usual_link : (first : Option Section) → ℕ
+usual_link first = unwrap_or (option_and_then link_of first) 1
+
+-- one that is given: that of the first header, or any if there is no header
+abbrev pub agreed_link : (first : Option Section) → ℕ → Result ℕ Reason
+agreed_link None n = Ok n
+agreed_link (Some section) n = if nat_eq n (usual_link (Some section)) then Ok n else Err OtherHeader
+
+-- a link type has 16 bits (draft-ietf-opsawg-pcap, section 4)
+abbrev pub numbered_link : (first : Option Section) → Option ℕ → Result ℕ Reason
+numbered_link first None = Err NotANumber
+numbered_link first (Some n) = if nat_lt n 65536 then agreed_link first n else Err TooBig
+
+abbrev pub frame_link : (first : Option Section) → Option Data → Result ℕ Reason
+frame_link first None = Ok (usual_link first)
+frame_link first (Some d) = numbered_link first (number_of d)
+
 -- ---- the frame
 
 abbrev pub frame_names : List (List ℕ)
@@ -62,6 +108,15 @@ frame_names = names Frame ++ codes "headers" ∷ codes "rest" ∷ []
 
 -- its headers, and the rest
 abbrev pub frame_bytes : Data → Meaning (List ℕ)
-frame_bytes d =
+frame_bytes d = joined (front (given (codes "headers") d)) (rest (given (codes "rest") d))
+
+abbrev pub framed : Meaning (List ℕ) → Meaning ℕ → Meaning FrameValue
+framed (Err r) link = Err r
+framed (Ok bytes) (Err r) = Err r
+framed (Ok bytes) (Ok link) = Ok (record { link = link; packet = bytes })
+
+abbrev pub frame_meaning : Data → Meaning FrameValue
+frame_meaning d =
     unless_unknown None (unknown_member frame_names d)
-    (joined (front (given (codes "headers") d)) (rest (given (codes "rest") d)))
+    (framed (frame_bytes d)
+    (told None (codes "link") (frame_link (first_header (given (codes "headers") d)) (given (codes "link") d))))

@@ -23,7 +23,8 @@ use Rattle.ether_make.specs.declared.sizes.Lengths.{Lengths}
 
 -- the headers that are made
 abbrev pub made_sections : List Section
-made_sections = sections.Eth ∷ sections.Vlan ∷ sections.Macsec ∷ sections.Arp ∷ []
+made_sections =
+    sections.Eth ∷ sections.Sll ∷ sections.Sll2 ∷ sections.Vlan ∷ sections.Macsec ∷ sections.Arp ∷ []
 
 abbrev pub section_named : (name : List ℕ) → Option Section
 section_named name = find (λ s. bytes_eq (section_name s) name) made_sections

@@ -6,6 +6,7 @@ pub mod FieldBits
 pub mod Sizes
 pub mod Headers
 pub mod Frames
+pub mod FrameViews
 pub mod Lines
 pub mod LineViews
 pub mod Captures

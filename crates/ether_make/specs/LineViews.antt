@@ -1,10 +1,12 @@
 -- What is returned for a line as its meaning.
-use Rattle.std.specs.Prelude.{◌≡◌, ℕ, List, Ok, Err, Result, Vec, Option, Some, None, IsUtf8, string_bytes}
-use Rattle.std.specs.declared.alloc.Global.{Global}
+use Rattle.std.specs.Prelude.{◌≡◌, ℕ, List, Ok, Err, Result, Option, Some, None, IsUtf8, string_bytes}
 use Rattle.serde_json.specs.Read.{read}
-use Rattle.ether_make.specs.Lines.{LineRefusal, LineMeans, LinesMean}
+use Rattle.ether_make.specs.Frames.{FrameValue}
+use Rattle.ether_make.specs.FrameViews.{frame_view}
+use Rattle.ether_make.specs.Lines.{LineRefusal, LineMeans}
 use Rattle.ether_make.specs.Lines as lines
 use Rattle.ether_make.specs.Refusals.{RefusalValue, refused}
+use Rattle.ether_make.specs.declared.frame.Frame.{Frame}
 use Rattle.ether_make.specs.declared.lines.LineFault.{LineFault}
 use Rattle.ether_make.specs.declared.lines.LineFault.TheVariants.{NotJson, Refused, TooLong, Memory}
 
@@ -29,15 +31,11 @@ abbrev pub IsOwned : RefusalValue → LineFault → Type 0
 IsOwned r fault = IfTold (λ told. told ≡ lines.Object r) (fault_view fault)
 
 -- what is returned for a meaning
-abbrev pub TellsLine : Result (List ℕ) LineRefusal → Result (Vec ℕ Global) LineFault → Type 0
-TellsLine meaning (Ok frame) = meaning ≡ Ok frame.items
+abbrev pub TellsLine : Result FrameValue LineRefusal → Result Frame LineFault → Type 0
+TellsLine meaning (Ok frame) = meaning ≡ Ok (frame_view frame)
 TellsLine meaning (Err fault) = IfTold (λ told. meaning ≡ Err told) (fault_view fault)
 
 -- what is returned for a line
-abbrev pub LineOf : (text : List ℕ) → Result (Vec ℕ Global) LineFault → Type 0
-LineOf text (Ok frame) = LineMeans text (Ok frame.items)
-LineOf text (Err fault) = IfTold (λ told. LineMeans text (Err told)) (fault_view fault)
-
--- lines mean these frames before the line with this number
-abbrev pub StopsAt : (number : ℕ) → (lines frames : List (List ℕ)) → (at : ℕ) → LineFault → Type 0
-StopsAt number ls frames at fault = IfTold (λ told. LinesMean number ls frames (Some (at, told))) (fault_view fault)
+abbrev pub LineOf : (link : Option ℕ) → (text : List ℕ) → Result Frame LineFault → Type 0
+LineOf link text (Ok frame) = LineMeans link text (Ok (frame_view frame))
+LineOf link text (Err fault) = IfTold (λ told. LineMeans link text (Err told)) (fault_view fault)

@@ -1,10 +1,12 @@
 -- The frames that lines of text mean.
-use Rattle.std.specs.Prelude.{◌≡◌, ◌==◌, ℕ, ◌+◌, ◌<◌, List, [], ◌∷◌, length, Option, Some, None, Result, Ok, Err, nat_lt, IsUtf8, if◌then◌else◌}
+use Rattle.std.specs.Prelude.{◌≡◌, ◌==◌, ℕ, ◌+◌, ◌<◌, List, [], ◌∷◌, length, codes, Option, Some, None, Result, Ok, Err, nat_eq, nat_lt, IsUtf8, if◌then◌else◌}
 use Rattle.std.specs.List.{slice_split}
 use Rattle.serde_json.specs.Data.{Data}
 use Rattle.serde_json.specs.Read.{read}
-use Rattle.ether_make.specs.Frames.{frame_bytes}
+use Rattle.ether_make.specs.declared.refusal.Reason.TheVariants.{OtherFrames}
+use Rattle.ether_make.specs.Frames.{FrameValue, frame_meaning}
 use Rattle.ether_make.specs.Refusals.{Meaning, RefusalValue}
+use Rattle.ether_make.specs.Refusals.{refused as refusal}
 
 -- why a line means no frame: it is no JSON text, its object is refused, or the frame is longer than a packet of a
 -- capture is
@@ -23,27 +25,44 @@ abbrev pub longest : ℕ
 longest = 262144
 
 -- the frame of an object, if it is no longer
-abbrev pub sized : Meaning (List ℕ) → Result (List ℕ) LineRefusal
-sized (Ok bytes) = if nat_lt longest (length bytes) then Err TooLong else Ok bytes
+abbrev pub sized : Meaning FrameValue → Result FrameValue LineRefusal
+sized (Ok frame) = if nat_lt longest (length frame.packet) then Err TooLong else Ok frame
 sized (Err r) = Err (Object r)
 
--- what a line means
-pub data LineMeans (text : List ℕ) : Result (List ℕ) LineRefusal → Type 0 where
-  object : (d : Data) → IsJson text d → LineMeans text (sized (frame_bytes d))
-  not_json : (IsUtf8 text → read text ≡ None) → LineMeans text (Err NotJson)
+-- .. and if it has the link type of the frames before, if there are any: a capture has one
+abbrev pub one_link : (link : Option ℕ) → Result FrameValue LineRefusal → Result FrameValue LineRefusal
+one_link None meaning = meaning
+one_link (Some link) (Err r) = Err r
+one_link (Some link) (Ok frame) =
+    if nat_eq frame.link link then Ok frame else Err (Object (refusal None (codes "link") OtherFrames))
+
+-- what a line means after frames with this link type
+pub data LineMeans (link : Option ℕ) (text : List ℕ) : Result FrameValue LineRefusal → Type 0 where
+  object : (d : Data) → IsJson text d → LineMeans link text (one_link link (sized (frame_meaning d)))
+  not_json : (IsUtf8 text → read text ≡ None) → LineMeans link text (Err NotJson)
 
 -- the lines of a text: a line feed (10) is between two
 abbrev pub lines_in : List ℕ → List (List ℕ)
 lines_in text = slice_split (λ c. c == 10) text
 
--- Lines, the first with this number, mean these frames, to the end or to a line that is refused. An empty line
--- means nothing.
-pub data LinesMean : (number : ℕ) → (lines frames : List (List ℕ)) → Option (ℕ × LineRefusal) → Type 0 where
-  none : (number : ℕ) → LinesMean number [] [] None
-  empty : (number : ℕ) (lines frames : List (List ℕ)) (stop : Option (ℕ × LineRefusal))
-      → LinesMean (number + 1) lines frames stop → LinesMean number ([] ∷ lines) frames stop
-  frame : (number : ℕ) (line bytes : List ℕ) (lines frames : List (List ℕ)) (stop : Option (ℕ × LineRefusal))
-      → 0 < length line → LineMeans line (Ok bytes) → LinesMean (number + 1) lines frames stop
-      → LinesMean number (line ∷ lines) (bytes ∷ frames) stop
-  refused : (number : ℕ) (line : List ℕ) (lines : List (List ℕ)) (r : LineRefusal) → 0 < length line
-      → LineMeans line (Err r) → LinesMean number (line ∷ lines) [] (Some (number, r))
+-- the link type of frames and one more
+abbrev pub linked : (link : Option ℕ) → FrameValue → Option ℕ
+linked None frame = Some frame.link
+linked (Some link) frame = Some link
+
+-- Lines, the first with this number, mean these frames after frames with this link type, to the end or to a line that
+-- is refused. An empty line means nothing.
+pub data LinesMean
+    : (number : ℕ) → (link : Option ℕ) → (lines : List (List ℕ)) → (frames : List FrameValue)
+    → Option (ℕ × LineRefusal) → Type 0 where
+  none : (number : ℕ) (link : Option ℕ) → LinesMean number link [] [] None
+  empty : (number : ℕ) (link : Option ℕ) (lines : List (List ℕ)) (frames : List FrameValue)
+      (stop : Option (ℕ × LineRefusal))
+      → LinesMean (number + 1) link lines frames stop → LinesMean number link ([] ∷ lines) frames stop
+  frame : (number : ℕ) (link : Option ℕ) (line : List ℕ) (frame : FrameValue) (lines : List (List ℕ))
+      (frames : List FrameValue) (stop : Option (ℕ × LineRefusal))
+      → 0 < length line → LineMeans link line (Ok frame) → LinesMean (number + 1) (linked link frame) lines frames stop
+      → LinesMean number link (line ∷ lines) (frame ∷ frames) stop
+  refused : (number : ℕ) (link : Option ℕ) (line : List ℕ) (lines : List (List ℕ)) (r : LineRefusal)
+      → 0 < length line
+      → LineMeans link line (Err r) → LinesMean number link (line ∷ lines) [] (Some (number, r))

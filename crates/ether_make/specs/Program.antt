@@ -1,43 +1,88 @@
 -- What a run of the program makes of its input.
-use Rattle.std.specs.Prelude.{◌≡◌, ℕ, List, None, Option, Some}
+use Rattle.std.specs.Prelude.{◌≡◌, ℕ, ◌<◌, List, [], ◌∷◌, ◌++◌, length, Bool, true, false, All, ◌≢◌, None, Option, Some, IfSome, Ok, Err, if◌then◌else◌}
 use Rattle.std.specs.Io.KnownBytes.{Appends, Consumes, IsAtEnd}
-use Rattle.ether_make.specs.Captures.{IsCaptureOf}
-use Rattle.ether_make.specs.Lines.{LinesMean, lines_in}
-use Rattle.ether_make.specs.LineViews.{StopsAt}
+use Rattle.std.specs.Io.{StopsAt}
+use Rattle.ether_make.specs.Captures.{Grows, IsBegun, IsTheCapture}
+use Rattle.ether_make.specs.Frames.{FrameValue}
+use Rattle.ether_make.specs.Lines.{LineMeans, LineRefusal, LinesMean, lines_in, linked}
+use Rattle.ether_make.specs.LineViews.{IfTold, fault_view}
 use Rattle.ether_make.specs.declared.lines.Stop.{Stop}
 use Rattle.ether_make.specs.declared.program.RunFault.{RunFault}
 use Rattle.ether_make.specs.declared.program.RunFault.TheVariants.{Input, Line, Output}
 
--- bytes are the capture of the frames that all lines of a text mean
-pub record IsMadeOf (text bytes : List ℕ) : Type 0 where
-  pub frames : List (List ℕ)
-  pub means : LinesMean 1 (lines_in text) frames None
-  pub capture : IsCaptureOf frames bytes
+-- ---- a run
 
--- a line of a text means no frame, and all before it do, unless memory is short
-pub record StopsIn (text : List ℕ) (stop : Stop) : Type 0 where
-  pub frames : List (List ℕ)
-  pub stops : StopsAt 1 (lines_in text) frames stop.line stop.fault
-
--- the reader gave all its bytes, and the writer took the capture that is made of them
-pub record HasMade (before after held holds : Option (List ℕ)) : Type 0 where
+-- The reader gave lines, and after them a part of a line that is not made. These lines mean frames, to their end or to
+-- the line that is refused, and the writer took bytes that are these frames.
+pub record Ran (IsWritten : List FrameValue → List ℕ → Type 0) (before after held holds : Option (List ℕ))
+    (stop : Option (ℕ × LineRefusal)) (part : List ℕ) : Type 0 where
   pub text : List ℕ
+  pub frames : List FrameValue
   pub bytes : List ℕ
-  pub read : Consumes before after text
-  pub at_end : IsAtEnd after
-  pub made : IsMadeOf text bytes
+  pub read : Consumes before after (text ++ part)
+  pub means : LinesMean 1 None (lines_in text) frames stop
+  pub is_written : IsWritten frames bytes
   pub written : Appends held holds bytes
 
--- the reader gave all its bytes, which stop at a line, and the writer took nothing
-pub record HasStopped (before after held holds : Option (List ℕ)) (stop : Stop) : Type 0 where
-  pub text : List ℕ
-  pub read : Consumes before after text
-  pub at_end : IsAtEnd after
-  pub stops : StopsIn text stop
-  pub unwritten : holds ≡ held
+-- the reader is at its end, and the writer took the frames of all lines
+pub record HasMade (IsWritten : List FrameValue → List ℕ → Type 0) (before after held holds : Option (List ℕ))
+    : Type 0 where
+  pub ran : Ran IsWritten before after held holds None []
+  pub at_end : IfSome before (λ xs. IsAtEnd after)
 
--- what is known after a fault; of one that the reader or the writer had nothing
-abbrev pub AfterFault : (before after held holds : Option (List ℕ)) → RunFault → Type 0
-AfterFault before after held holds (Line stop) = HasStopped before after held holds stop
-AfterFault before after held holds (Input error) = holds ≡ held
-AfterFault before after held holds (Output error) = Unit {0}
+-- the run ended in the middle of a line, and the writer took the frames of all lines before it
+pub record HasBroken (IsWritten : List FrameValue → List ℕ → Type 0) (before after held holds : Option (List ℕ))
+    : Type 0 where
+  pub part : List ℕ
+  pub one_line : StopsAt part 10
+  pub ran : Ran IsWritten before after held holds None part
+
+-- the run ended at this line, since it is refused, or since there was no memory
+abbrev pub AfterLine : (IsWritten : List FrameValue → List ℕ → Type 0) → (before after held holds : Option (List ℕ))
+    → (line : ℕ) → Option LineRefusal → Type 0
+AfterLine IsWritten before after held holds line None = HasBroken IsWritten before after held holds
+AfterLine IsWritten before after held holds line (Some r) = Ran IsWritten before after held holds (Some (line, r)) []
+
+-- what is known after a fault; of one that the writer had nothing
+abbrev pub AfterFault : (IsWritten : List FrameValue → List ℕ → Type 0) → (before after held holds : Option (List ℕ))
+    → RunFault → Type 0
+AfterFault IsWritten before after held holds (Line stop) =
+    AfterLine IsWritten before after held holds stop.line (fault_view stop.fault)
+AfterFault IsWritten before after held holds (Input error) = HasBroken IsWritten before after held holds
+AfterFault IsWritten before after held holds (Output error) = Unit {0}
+
+-- ---- a line of it
+
+abbrev pub line_end : (is_ended : Bool) → List ℕ
+line_end is_ended = if is_ended then 10 ∷ [] else []
+
+-- a line was read, with the line feed (10) at its end if that is there
+pub record ReadsLine (before after : Option (List ℕ)) (line : List ℕ) (is_ended : Bool) : Type 0 where
+  pub read : Consumes before after (line ++ line_end is_ended)
+  pub one_line : All (λ c. c ≢ 10) line
+  pub at_end : is_ended ≡ false → IfSome before (λ xs. IsAtEnd after)
+
+pub record BreaksLine (before after : Option (List ℕ)) (line : List ℕ) : Type 0 where
+  pub read : Consumes before after line
+  pub one_line : StopsAt line 10
+
+-- a writer takes the frame of a line, or nothing of an empty one
+pub data TakesLine (text : List ℕ) (held holds : Option (List ℕ)) : (link after : Option ℕ) → Type 0 where
+  empty : (link : Option ℕ) → length text ≡ 0 → Appends held holds [] → TakesLine text held holds link link
+  frame : (link : Option ℕ) (frame : FrameValue) → 0 < length text → LineMeans link text (Ok frame)
+      → Grows link (linked link frame) frame held holds → TakesLine text held holds link (linked link frame)
+
+-- a line is refused, or there is no memory, and nothing is written
+pub record RefusesLine (number : ℕ) (text : List ℕ) (held holds : Option (List ℕ)) (link after : Option ℕ) (stop : Stop)
+    : Type 0 where
+  pub line : stop.line ≡ number
+  pub same_link : after ≡ link
+  pub some : 0 < length text
+  pub means : IfTold (λ r. LineMeans link text (Err r)) (fault_view stop.fault)
+  pub unwritten : Appends held holds []
+
+abbrev pub AfterTaking : (number : ℕ) → (text : List ℕ) → (held holds : Option (List ℕ)) → (link after : Option ℕ)
+    → RunFault → Type 0
+AfterTaking number text held holds link after (Line stop) = RefusesLine number text held holds link after stop
+AfterTaking number text held holds link after (Input error) = ⊥
+AfterTaking number text held holds link after (Output error) = Unit {0}

@@ -1,28 +1,64 @@
 //! The frame that an object means.
-ghost use Rattle.std.specs.Prelude.{◌≡◌, map};
+ghost use Rattle.std.specs.Prelude.{◌≡◌, None, codes, map};
 ghost use Rattle.std.specs.Option.{option_map};
 ghost use Rattle.serde_json.specs.View.{view};
-ghost use Rattle.ether_make.specs.Frames.{front as front_in, front_of as front_of_in, rest as rest_of_in, rest_bytes as rest_bytes_in, spelled_rest, frame_bytes};
+ghost use Rattle.ether_make.specs.Objects.{given as given_in};
+ghost use Rattle.ether_make.specs.Frames.{front as front_in, front_of as front_of_in, rest as rest_of_in, rest_bytes as rest_bytes_in, spelled_rest, frame_bytes as frame_bytes_in, frame_meaning, link_of as link_of_in, first_header as first_header_in, usual_link as usual_link_in, frame_link as frame_link_in};
+ghost use Rattle.ether_make.specs.FrameViews.{frame_view};
 ghost use Rattle.ether_make.specs.Texts.{hex_bytes as hex_in};
-ghost use Rattle.ether_make.specs.Headers.{next_in};
+ghost use Rattle.ether_make.specs.Headers.{next_in, told};
 ghost use Rattle.ether_make.specs.Refusals.{Tells};
 
 use crate::header::{headers_bytes, next_section};
-use crate::objects::{given, unknown_member};
+use crate::objects::{given, number_of, unknown_member};
 use crate::refusal::{Fault, Reason, Refusal};
 use crate::texts::hex_bytes;
 use ether_fields::Section;
 use serde_json::Value;
 use std::alloc::Global;
 
-/// The bytes of the frame that an object means: its headers, and the rest. A refusal borrows the name of a member from
-/// the object.
-pub fn make_frame<'v>(alloc: Global, object: &'v Value) -> Result<Vec<u8>, Fault<'v>>
-    ensures { Tells (λ v. v.items) (frame_bytes (view object.now)) result }
+/// A frame.
+#[derive(Drop, Debug)]
+pub struct Frame {
+    /// The link type of its capture.
+    pub link: u16,
+    /// Its bytes.
+    pub bytes: Vec<u8>,
+}
+
+/// The frame that an object means. A refusal borrows the name of a member from the object.
+pub fn make_frame<'v>(alloc: Global, object: &'v Value) -> Result<Frame, Fault<'v>>
+    ensures { Tells frame_view (frame_meaning (view object.now)) result }
 {
     if let Some(member) = unknown_member(object, Section::Frame.fields(), &["headers", "rest"]) {
         return Err(refused(member, Reason::Unknown));
     }
+    let bytes = match frame_bytes(alloc, object) {
+        Ok(bytes) => bytes,
+        Err(fault) => return Err(fault),
+    };
+    match told_link(object) {
+        Ok(link) => Ok(Frame { link, bytes }),
+        Err(fault) => Err(fault),
+    }
+}
+
+/// The link type of a frame, or the refusal of the member.
+fn told_link<'v>(object: &'v Value) -> Result<u16, Fault<'v>>
+    ensures { Tells (λ link. link) (told None (codes "link")
+        (frame_link_in (first_header_in (given_in (codes "headers") (view object.now)))
+        (given_in (codes "link") (view object.now)))) result }
+{
+    match frame_link(object) {
+        Ok(link) => Ok(link),
+        Err(reason) => Err(refused("link", reason)),
+    }
+}
+
+/// The bytes of a frame: its headers, and the rest.
+fn frame_bytes<'v>(alloc: Global, object: &'v Value) -> Result<Vec<u8>, Fault<'v>>
+    ensures { Tells (λ v. v.items) (frame_bytes_in (view object.now)) result }
+{
     let mut bytes = match front(alloc, given(object, "headers")) {
         Ok(bytes) => bytes,
         Err(fault) => return Err(fault),
@@ -67,13 +103,65 @@ fn front_of<'v>(alloc: Global, objects: &'v [Value]) -> Result<Vec<u8>, Fault<'v
     ensures { Tells (λ v. v.items) (front_of_in (map view objects.now)) result }
 {
     match next_section(objects) {
-        None | Some(Section::Eth) => headers_bytes(alloc, objects),
-        Some(_) => Err(Fault::Refused(Refusal {
+        Some(section) if link_of(section).is_none() => Err(Fault::Refused(Refusal {
             header: Some(0),
             member: "header",
             reason: Reason::NotALink,
         })),
+        _ => headers_bytes(alloc, objects),
     }
+}
+
+/// The link type of frames that begin with a header.
+fn link_of(section: Section) -> Option<u16>
+    ensures { result ≡ link_of_in section }
+{
+    match section {
+        Section::Eth => Some(1),
+        Section::Sll => Some(113),
+        Section::Sll2 => Some(276),
+        _ => None,
+    }
+}
+
+/// The link type of a frame: the one that is given, if no header contradicts it, or that of its first header, or
+/// Ethernet.
+fn frame_link(object: &Value) -> Result<u16, Reason>
+    ensures { result ≡ frame_link_in (first_header_in (given_in (codes "headers") (view object.now)))
+        (given_in (codes "link") (view object.now)) }
+{
+    let first = first_header(object);
+    let Some(value) = given(object, "link") else {
+        return Ok(usual_link(first));
+    };
+    let Some(number) = number_of(value) else {
+        return Err(Reason::NotANumber);
+    };
+    if number >= 65_536 {
+        return Err(Reason::TooBig);
+    }
+    let link = number as u16;
+    if first.is_some() && link != usual_link(first) {
+        return Err(Reason::OtherHeader);
+    }
+    Ok(link)
+}
+
+/// The link type of a first header, or Ethernet.
+fn usual_link(first: Option<Section>) -> u16
+    ensures { result ≡ usual_link_in first }
+{
+    match first {
+        Some(section) => link_of(section).unwrap_or(1),
+        None => 1,
+    }
+}
+
+/// The first header.
+fn first_header(object: &Value) -> Option<Section>
+    ensures { result ≡ first_header_in (given_in (codes "headers") (view object.now)) }
+{
+    next_section(given(object, "headers")?.as_array()?.as_slice())
 }
 
 /// The bytes after the headers.

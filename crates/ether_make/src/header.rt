@@ -16,7 +16,14 @@ use serde_json::Value;
 use std::alloc::Global;
 
 /// The headers that are made.
-static MADE: [Section; 4] = [Section::Eth, Section::Vlan, Section::Macsec, Section::Arp];
+static MADE: [Section; 6] = [
+    Section::Eth,
+    Section::Sll,
+    Section::Sll2,
+    Section::Vlan,
+    Section::Macsec,
+    Section::Arp,
+];
 
 /// The header that an object names.
 pub fn section_in(object: &Value) -> Result<Section, Reason>

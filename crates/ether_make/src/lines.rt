@@ -1,15 +1,16 @@
-//! The frames that lines of text mean.
-ghost use Rattle.std.specs.Prelude.{◌≡◌, ℕ, List, map, None, IfOk, IfErr};
+//! The frame that a line of text means.
+ghost use Rattle.std.specs.Prelude.{◌≡◌, IfOk, IfErr};
 ghost use Rattle.serde_json.specs.View.{view};
-ghost use Rattle.ether_make.specs.Frames.{frame_bytes};
-ghost use Rattle.ether_make.specs.Lines.{IsJson, LinesMean, lines_in, sized};
-ghost use Rattle.ether_make.specs.LineViews.{IsNotJson, IsOwned, LineOf, StopsAt, TellsLine};
+ghost use Rattle.ether_make.specs.Frames.{frame_meaning};
+ghost use Rattle.ether_make.specs.FrameViews.{frame_view};
+ghost use Rattle.ether_make.specs.Lines.{IsJson, one_link, sized};
+ghost use Rattle.ether_make.specs.LineViews.{IsNotJson, IsOwned, LineOf, TellsLine};
 ghost use Rattle.ether_make.specs.Refusals.{refusal_view};
 
-use crate::frame::make_frame;
+use crate::frame::{Frame, make_frame};
 use crate::refusal::{Fault, Reason, Refusal};
 use serde_json::Value;
-use std::alloc::{AllocError, Global};
+use std::alloc::Global;
 
 /// The most bytes of a frame: the most that a packet of a capture has.
 const LONGEST: usize = 262_144;
@@ -51,56 +52,12 @@ impl Stop {
     };
 }
 
-/// The frames of the lines of a text, or the first line that is refused. An empty line means nothing.
-pub fn make_frames(alloc: Global, text: &[u8]) -> Result<Vec<Vec<u8>>, Stop>
-    ensures frames { IfOk result (λ v. LinesMean 1 (lines_in text.now) (map (λ f. f.items) v.items) None) }
-    ensures stop { IfErr result (λ s. (frames : List (List ℕ))
-        × StopsAt 1 (lines_in text.now) frames s.line s.fault) }
-{
-    match lines_of(alloc, text) {
-        Ok(lines) => frames_of(alloc, &lines),
-        Err(_) => Err(Stop::MEMORY),
-    }
-}
-
-/// The lines of a text.
-fn lines_of(alloc: Global, text: &[u8]) -> Result<Vec<&[u8]>, AllocError>
-    ensures { IfOk result (λ v. map (λ l. l.now) v.items ≡ lines_in text.entry.now) }
-{
-    text.split(|c| *c == b'\n').collect(alloc)
-}
-
-/// The frames of lines.
-fn frames_of(alloc: Global, lines: &[&[u8]]) -> Result<Vec<Vec<u8>>, Stop>
-    ensures frames { IfOk result (λ v. LinesMean 1 (map (λ l. l.now) lines.now) (map (λ f. f.items) v.items) None) }
-    ensures stop { IfErr result (λ s. (frames : List (List ℕ))
-        × StopsAt 1 (map (λ l. l.now) lines.now) frames s.line s.fault) }
-{
-    let mut frames = Vec::new(alloc);
-    for (at, line) in lines.iter().enumerate() {
-        if line.is_empty() {
-            continue;
-        }
-        let frame = match line_frame(alloc, line) {
-            Ok(frame) => frame,
-            Err(fault) => {
-                let line = at + 1;
-                return Err(Stop { line, fault });
-            }
-        };
-        if let Err(_) = frames.push(frame) {
-            return Err(Stop::MEMORY);
-        }
-    }
-    Ok(frames)
-}
-
-/// The frame of a line.
-fn line_frame(alloc: Global, text: &[u8]) -> Result<Vec<u8>, LineFault>
-    ensures { LineOf text.now result }
+/// The frame of a line, after frames with this link type, if there are any.
+pub fn line_frame(alloc: Global, text: &[u8], link: Option<u16>) -> Result<Frame, LineFault>
+    ensures { LineOf link text.now result }
 {
     match value_of(alloc, text) {
-        Ok(value) => object_frame(alloc, &value),
+        Ok(value) => object_frame(alloc, &value, link),
         Err(fault) => Err(fault),
     }
 }
@@ -122,12 +79,32 @@ fn value_of(alloc: Global, text: &[u8]) -> Result<Value, LineFault>
 }
 
 /// The frame of an object.
-fn object_frame(alloc: Global, object: &Value) -> Result<Vec<u8>, LineFault>
-    ensures { TellsLine (sized (frame_bytes (view object.now))) result }
+fn object_frame(alloc: Global, object: &Value, link: Option<u16>) -> Result<Frame, LineFault>
+    ensures { TellsLine (one_link link (sized (frame_meaning (view object.now)))) result }
+{
+    match sized_frame(alloc, object) {
+        Ok(frame) => match link {
+            Some(link) if frame.link != link => Err(owned(
+                alloc,
+                &Refusal {
+                    header: None,
+                    member: "link",
+                    reason: Reason::OtherFrames,
+                },
+            )),
+            _ => Ok(frame),
+        },
+        Err(fault) => Err(fault),
+    }
+}
+
+/// The frame of an object, whatever its link type is.
+fn sized_frame(alloc: Global, object: &Value) -> Result<Frame, LineFault>
+    ensures { TellsLine (sized (frame_meaning (view object.now))) result }
 {
     match make_frame(alloc, object) {
         Ok(frame) => {
-            if frame.len() > LONGEST {
+            if frame.bytes.len() > LONGEST {
                 return Err(LineFault::TooLong);
             }
             Ok(frame)

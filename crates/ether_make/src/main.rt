@@ -17,8 +17,10 @@ pub mod refusal;
 pub mod sizes;
 pub mod texts;
 
+use lines::Stop;
 use program::RunFault;
 use std::env;
+use std::io::BufWriter;
 use std::process::ExitCode;
 
 /// What `--version` prints, before an LF.
@@ -49,7 +51,10 @@ fn main(rt: HostRuntime) -> ExitCode {
     if let Some(word) = args.skip(1).next() {
         return about(rt, word.as_str());
     }
-    match program::run(rt.alloc(), &mut rt.reader(), &mut rt.stdout()) {
+    let Ok(mut writer) = BufWriter::new(rt.alloc(), rt.stdout()) else {
+        return ExitCode::from(tell(rt, &RunFault::Line(Stop::MEMORY)));
+    };
+    match program::run(rt.alloc(), &mut rt.reader(), &mut writer) {
         Ok(()) => ExitCode::from(0),
         Err(fault) => ExitCode::from(tell(rt, &fault)),
     }

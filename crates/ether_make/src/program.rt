@@ -1,15 +1,16 @@
 //! What a run of the program makes of its input.
-ghost use Rattle.std.specs.Prelude.{◌≡◌, IfOk, IfErr, OnOk};
+ghost use Rattle.std.specs.Prelude.{◌≡◌, None, IfOk, IfErr, OnErr, OnOk};
+ghost use Rattle.ether_make.specs.Captures.{IsBegun, IsTheCapture};
 ghost use Rattle.ether_make.specs.Messages.{fault_status};
-ghost use Rattle.ether_make.specs.Program.{AfterFault, HasMade, IsMadeOf, StopsIn};
+ghost use Rattle.ether_make.specs.Program.{AfterFault, AfterTaking, BreaksLine, HasMade, ReadsLine, TakesLine};
 
-use crate::capture::capture_of;
-use crate::lines::{LineFault, Stop, make_frames};
+use crate::capture::{write_end, write_frame};
+use crate::lines::{LineFault, Stop, line_frame};
 use std::alloc::Global;
-use std::io::{Read, Write};
+use std::io::{BufRead, Write};
 use std::{fmt, io};
 
-/// Why a run made no capture.
+/// Why a run did not make all frames.
 #[derive(Drop)]
 pub enum RunFault {
     /// The reader failed.
@@ -20,39 +21,101 @@ pub enum RunFault {
     Output(io::Error),
 }
 
-/// Reads all lines of a reader, and writes the capture of their frames.
-pub fn run<R: Read, W: Write>(alloc: Global, reader: &mut R, writer: &mut W) -> Result<(), RunFault>
-    ensures made { OnOk result (HasMade (R.remaining reader.old) (R.remaining reader.new)
+/// Makes the frames of the lines of a reader, and writes their capture. Each frame is written before the next line is
+/// read. A line that means no frame ends the run; the capture has the frames of the lines before it.
+pub fn run<R: BufRead, W: Write>(
+    alloc: Global,
+    reader: &mut R,
+    writer: &mut W,
+) -> Result<(), RunFault>
+    ensures made { OnOk result (HasMade IsTheCapture (R.remaining reader.old) (R.remaining reader.new)
         (W.contents writer.old) (W.contents writer.new)) }
-    ensures fault { IfErr result (AfterFault (R.remaining reader.old) (R.remaining reader.new)
+    ensures fault { IfErr result (AfterFault IsTheCapture (R.remaining reader.old) (R.remaining reader.new)
         (W.contents writer.old) (W.contents writer.new)) }
 {
-    let mut text = Vec::new(alloc);
-    if let Err(error) = reader.read_to_end(&mut text) {
-        return Err(RunFault::Input(error));
-    }
-    let bytes = match make_capture(alloc, &text) {
-        Ok(bytes) => bytes,
-        Err(stop) => return Err(RunFault::Line(stop)),
-    };
-    match writer.write_all(&bytes) {
-        Ok(()) => Ok(()),
-        Err(error) => Err(RunFault::Output(error)),
+    let mut link = None;
+    match make_lines(alloc, reader, writer, &mut link) {
+        Err(RunFault::Output(error)) => Err(RunFault::Output(error)),
+        ending => match write_end(writer, link) {
+            Ok(()) => ending,
+            Err(error) => Err(RunFault::Output(error)),
+        },
     }
 }
 
-/// The capture of the frames that the lines of a text mean, or the first line that means none.
-pub fn make_capture(alloc: Global, text: &[u8]) -> Result<Vec<u8>, Stop>
-    ensures made { IfOk result (λ v. IsMadeOf text.now v.items) }
-    ensures stop { IfErr result (StopsIn text.now) }
+/// Makes the frames of all lines, and writes them.
+fn make_lines<R: BufRead, W: Write>(
+    alloc: Global,
+    reader: &mut R,
+    writer: &mut W,
+    link: &mut Option<u16>,
+) -> Result<(), RunFault>
+    requires { link.old ≡ None }
+    ensures made { OnOk result (HasMade (IsBegun link.new) (R.remaining reader.old) (R.remaining reader.new)
+        (W.contents writer.old) (W.contents writer.new)) }
+    ensures fault { IfErr result (AfterFault (IsBegun link.new) (R.remaining reader.old) (R.remaining reader.new)
+        (W.contents writer.old) (W.contents writer.new)) }
 {
-    let frames = match make_frames(alloc, text) {
-        Ok(frames) => frames,
-        Err(stop) => return Err(stop),
+    let mut line = Vec::new(alloc);
+    for number in 1..usize::MAX {
+        let is_ended = match read_line(reader, &mut line) {
+            Ok(is_ended) => is_ended,
+            Err(error) => return Err(RunFault::Input(error)),
+        };
+        if let Err(fault) = take_line(alloc, number, &line, writer, link) {
+            return Err(fault);
+        }
+        if !is_ended {
+            return Ok(());
+        }
+    }
+    Err(RunFault::Line(Stop::MEMORY))
+}
+
+/// Reads a line, and returns whether a line feed was at its end.
+fn read_line<R: BufRead>(reader: &mut R, line: &mut Vec<u8>) -> io::Result<bool>
+    ensures line { IfOk result (ReadsLine (R.remaining reader.old) (R.remaining reader.new) line.new.items) }
+    ensures broken { OnErr result (BreaksLine (R.remaining reader.old) (R.remaining reader.new) line.new.items) }
+{
+    line.clear();
+    if let Err(error) = reader.read_until(b'\n', line) {
+        return Err(error);
+    }
+    let len = line.len();
+    if len > 0 && line[len - 1] == b'\n' {
+        line.truncate(len - 1);
+        return Ok(true);
+    }
+    Ok(false)
+}
+
+/// Makes the frame of a line, and writes it. An empty line means nothing.
+fn take_line<W: Write>(
+    alloc: Global,
+    number: usize,
+    text: &[u8],
+    writer: &mut W,
+    link: &mut Option<u16>,
+) -> Result<(), RunFault>
+    ensures taken { OnOk result (TakesLine text.now (W.contents writer.old) (W.contents writer.new) link.old link.new) }
+    ensures fault { IfErr result (AfterTaking number text.now (W.contents writer.old) (W.contents writer.new)
+        link.old link.new) }
+{
+    if text.is_empty() {
+        return Ok(());
+    }
+    let frame = match line_frame(alloc, text, *link) {
+        Ok(frame) => frame,
+        Err(fault) => {
+            return Err(RunFault::Line(Stop {
+                line: number,
+                fault,
+            }));
+        }
     };
-    match capture_of(alloc, &frames) {
-        Ok(bytes) => Ok(bytes),
-        Err(_) => Err(Stop::MEMORY),
+    match write_frame(writer, link, &frame) {
+        Ok(()) => Ok(()),
+        Err(error) => Err(RunFault::Output(error)),
     }
 }
 

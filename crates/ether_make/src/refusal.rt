@@ -29,6 +29,10 @@ pub enum Reason {
     OtherLength,
     /// The header does not have the field.
     Absent,
+    /// The first header has another link type.
+    OtherHeader,
+    /// The frames before have another link type.
+    OtherFrames,
 }
 
 /// What is refused, and why.
@@ -69,6 +73,8 @@ impl Reason {
             Reason::TooBig => "has more bits than the field",
             Reason::OtherLength => "has another number of bytes than the field",
             Reason::Absent => "is a field that this header does not have",
+            Reason::OtherHeader => "is not the link type of the first header",
+            Reason::OtherFrames => "is not the link type of the frames before",
         }
     }
 }

@@ -4,7 +4,8 @@ use Rattle.ether_make.proofs.lines.line_frame.Goals as goal
 
 pub returns-in-Ok : goal.returns-in-Ok
 returns-in-Ok c =
-    line-object c.args.text.now (view c.in-Ok.value) c.in-Ok.ensures.value c.object_frame.result c.object_frame.ensures
+    line-object c.args.link c.args.text.now (view c.in-Ok.value) c.in-Ok.ensures.value c.object_frame.result
+    c.object_frame.ensures
 
 pub returns-in-Err : goal.returns-in-Err
-returns-in-Err c = line-not_json c.args.text.now c.in-Err.fault c.in-Err.ensures.fault
+returns-in-Err c = line-not_json c.args.link c.args.text.now c.in-Err.fault c.in-Err.ensures.fault

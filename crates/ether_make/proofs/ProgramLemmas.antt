@@ -1,0 +1,294 @@
+-- A run, line by line.
+use Rattle.std.proofs.Common.{◌≡◌, ◌≢◌, ℕ, ◌+◌, ◌-◌, ◌<◌, List, [], ◌∷◌, ◌++◌, length, take, Option, Some, None, IfSome, Ok, Err, Bool, true, false, All, refl, sym, ap, subst, ◌∙◌, arith, append_assoc}
+use Rattle.std.proofs.lemmas.List.{append-nil, take_at, length_push}
+use Rattle.std.proofs.lemmas.List.Elements.{All-take}
+use Rattle.std.proofs.KnownBytes.{Consumes-nil, Consumes-trans, Appends-nil, Appends-trans}
+use Rattle.std.specs.Io.KnownBytes.{Appends, Consumes, IsAtEnd}
+use Rattle.std.specs.Io.{StopsAt}
+use Rattle.ether_make.specs.Captures.{Ends, Grows, IsBegun, IsTheCapture, nothing}
+use Rattle.ether_make.specs.Frames.{FrameValue}
+use Rattle.ether_make.specs.Lines.{LineMeans, LineRefusal, LinesMean, lines_in, linked}
+use Rattle.ether_make.specs.Lines as meant
+use Rattle.ether_make.specs.LineViews.{IfTold, fault_view}
+use Rattle.ether_make.specs.Program.{Ran, HasMade, HasBroken, AfterLine, AfterFault, ReadsLine, TakesLine, RefusesLine, AfterTaking, empty, frame, line_end}
+use Rattle.ether_make.specs.declared.lines.Stop.{Stop}
+use Rattle.ether_make.specs.declared.program.RunFault.{RunFault}
+use Rattle.ether_make.specs.declared.program.RunFault.TheVariants as runs
+use Rattle.ether_make.proofs.LineLemmas.{lines-ended, lines-last}
+
+-- all lines before the one with this number are read, made and written
+pub record Doing (before now held holds : Option (List ℕ)) (number : ℕ) (link : Option ℕ) : Type 0 where
+  pub text : List ℕ
+  pub frames : List FrameValue
+  pub bytes : List ℕ
+  pub read : Consumes before now text
+  pub begun : IsBegun link frames bytes
+  pub written : Appends held holds bytes
+  pub means : (later : List ℕ) (more : List FrameValue) (stop : Option (ℕ × LineRefusal))
+      → LinesMean number link (lines_in later) more stop
+      → LinesMean 1 None (lines_in (text ++ later)) (frames ++ more) stop
+
+pub doing-begin : (before held : Option (List ℕ)) → Doing before before held held 1 None
+doing-begin before held = record {
+  text = [];
+  frames = [];
+  bytes = [];
+  read = Consumes-nil before;
+  begun = nothing;
+  written = Appends-nil held;
+  means = λ later more stop h. h;
+}
+
+-- ---- a line that is read
+
+is_empty : (xs : List ℕ) → length xs ≡ 0 → xs ≡ []
+is_empty [] e = refl
+is_empty (x ∷ xs) e = absurd (omega arith)
+
+same_written : (held mid holds : Option (List ℕ)) (bytes : List ℕ) → Appends held mid bytes → Appends mid holds []
+    → Appends held holds bytes
+same_written held mid holds bytes a b =
+    subst (λ (bs : List ℕ). Appends held holds bs) (append-nil bytes) (Appends-trans held mid holds bytes [] a b)
+
+-- what lines mean after an empty one, and after a frame
+empty_means : (number : ℕ) (link : Option ℕ) (line : List ℕ) (lines : List (List ℕ)) (more : List FrameValue)
+    (stop : Option (ℕ × LineRefusal)) → length line ≡ 0 → LinesMean (number + 1) link lines more stop
+    → LinesMean number link (line ∷ lines) more stop
+empty_means number link line lines more stop e h =
+    subst (λ (l : List ℕ). LinesMean number link (l ∷ lines) more stop) (sym (is_empty line e))
+    (meant.empty number link lines more stop h)
+
+whole_text : (text line later : List ℕ) → text ++ (line ++ 10 ∷ later) ≡ (text ++ (line ++ 10 ∷ [])) ++ later
+whole_text text line later =
+    ap (λ l. text ++ l) (sym (append_assoc line (10 ∷ []) later)) ∙ sym (append_assoc text (line ++ 10 ∷ []) later)
+
+ended_means : (number after : ℕ) (link linked : Option ℕ) (text line : List ℕ) (frames new : List FrameValue)
+    → All (λ c. c ≢ 10) line
+    → ((later : List ℕ) (more : List FrameValue) (stop : Option (ℕ × LineRefusal))
+    → LinesMean number link (lines_in later) more stop
+    → LinesMean 1 None (lines_in (text ++ later)) (frames ++ more) stop)
+    → ((lines : List (List ℕ)) (more : List FrameValue) (stop : Option (ℕ × LineRefusal))
+    → LinesMean after linked lines more stop → LinesMean number link (line ∷ lines) (new ++ more) stop)
+    → (later : List ℕ) (more : List FrameValue) (stop : Option (ℕ × LineRefusal))
+    → LinesMean after linked (lines_in later) more stop
+    → LinesMean 1 None (lines_in ((text ++ (line ++ 10 ∷ [])) ++ later)) ((frames ++ new) ++ more) stop
+ended_means number after link linked text line frames new one means step later more stop h =
+    subst (λ (t : List ℕ). LinesMean 1 None (lines_in t) ((frames ++ new) ++ more) stop) (whole_text text line later)
+    (subst (λ (fs : List FrameValue). LinesMean 1 None (lines_in (text ++ (line ++ 10 ∷ later))) fs stop)
+    (sym (append_assoc frames new more))
+    (means (line ++ 10 ∷ later) (new ++ more) stop
+    (subst (λ (ls : List (List ℕ)). LinesMean number link ls (new ++ more) stop) (sym (lines-ended line later one))
+    (step (lines_in later) more stop h))))
+
+pub doing-line : (before now after held mid holds : Option (List ℕ)) (number : ℕ) (line : List ℕ)
+    (link linked : Option ℕ) → Doing before now held mid number link → ReadsLine now after line true
+    → TakesLine line mid holds link linked → Doing before after held holds (number + 1) linked
+doing-line before now after held mid holds number line link linked d r (empty l e a) = record {
+  text = d.text ++ (line ++ 10 ∷ []);
+  frames = d.frames ++ [];
+  bytes = d.bytes;
+  read = Consumes-trans before now after d.text (line ++ 10 ∷ []) d.read r.read;
+  begun = subst (λ (fs : List FrameValue). IsBegun l fs d.bytes) (sym (append-nil d.frames)) d.begun;
+  written = same_written held mid holds d.bytes d.written a;
+  means = ended_means number (number + 1) l l d.text line d.frames [] r.one_line d.means
+      (λ lines more stop h. empty_means number l line lines more stop e h);
+}
+doing-line before now after held mid holds number line link linked d r (frame l f some means g) = record {
+  text = d.text ++ (line ++ 10 ∷ []);
+  frames = d.frames ++ f ∷ [];
+  bytes = d.bytes ++ g.more;
+  read = Consumes-trans before now after d.text (line ++ 10 ∷ []) d.read r.read;
+  begun = g.begun d.frames d.bytes d.begun;
+  written = Appends-trans held mid holds d.bytes g.more d.written g.written;
+  means = ended_means number (number + 1) l _ d.text line d.frames (f ∷ []) r.one_line d.means
+      (λ lines more stop h. meant.frame number l line f lines more stop some means h);
+}
+
+-- ---- the last line
+
+last_means : (number : ℕ) (link : Option ℕ) (text line : List ℕ) (frames new : List FrameValue)
+    (stop : Option (ℕ × LineRefusal)) → All (λ c. c ≢ 10) line
+    → ((later : List ℕ) (more : List FrameValue) (stop : Option (ℕ × LineRefusal))
+    → LinesMean number link (lines_in later) more stop
+    → LinesMean 1 None (lines_in (text ++ later)) (frames ++ more) stop)
+    → LinesMean number link (line ∷ []) new stop → LinesMean 1 None (lines_in (text ++ line)) (frames ++ new) stop
+last_means number link text line frames new stop one means h =
+    means line new stop
+    (subst (λ (ls : List (List ℕ)). LinesMean number link ls new stop) (sym (lines-last line one)) h)
+
+known_end : (before now after : Option (List ℕ)) (text : List ℕ) → Consumes before now text
+    → IfSome now (λ xs. IsAtEnd after) → IfSome before (λ xs. IsAtEnd after)
+known_end None now after text c h = tt
+known_end (Some xs) None after text c h = absurd c
+known_end (Some xs) (Some ys) after text c h = h
+
+read_last : (before now after : Option (List ℕ)) (text line : List ℕ) → Consumes before now text
+    → Consumes now after (line ++ []) → Consumes before after ((text ++ line) ++ [])
+read_last before now after text line a b =
+    subst (λ (bs : List ℕ). Consumes before after bs) (sym (append_assoc text line []))
+    (Consumes-trans before now after text (line ++ []) a b)
+
+pub doing-last : (before now after held mid holds : Option (List ℕ)) (number : ℕ) (line : List ℕ)
+    (link linked : Option ℕ) → Doing before now held mid number link → ReadsLine now after line false
+    → TakesLine line mid holds link linked → HasMade (IsBegun linked) before after held holds
+doing-last before now after held mid holds number line link linked d r (empty l e a) = record {
+  ran = record {
+    text = d.text ++ line;
+    frames = d.frames ++ [];
+    bytes = d.bytes;
+    read = read_last before now after d.text line d.read r.read;
+    means = last_means number l d.text line d.frames [] None r.one_line d.means
+        (empty_means number l line [] [] None e (meant.none (number + 1) l));
+    is_written = subst (λ (fs : List FrameValue). IsBegun l fs d.bytes) (sym (append-nil d.frames)) d.begun;
+    written = same_written held mid holds d.bytes d.written a;
+  };
+  at_end = known_end before now after d.text d.read (r.at_end refl);
+}
+doing-last before now after held mid holds number line link linked d r (frame l f some means g) = record {
+  ran = record {
+    text = d.text ++ line;
+    frames = d.frames ++ f ∷ [];
+    bytes = d.bytes ++ g.more;
+    read = read_last before now after d.text line d.read r.read;
+    means = last_means number l d.text line d.frames (f ∷ []) None r.one_line d.means
+        (meant.frame number l line f [] [] None some means (meant.none (number + 1) _));
+    is_written = g.begun d.frames d.bytes d.begun;
+    written = Appends-trans held mid holds d.bytes g.more d.written g.written;
+  };
+  at_end = known_end before now after d.text d.read (r.at_end refl);
+}
+
+-- ---- a line that ends the run
+
+-- what the text so far means, if nothing of the next line is made
+so_far : (number : ℕ) (link : Option ℕ) (text : List ℕ) (frames : List FrameValue)
+    → ((later : List ℕ) (more : List FrameValue) (stop : Option (ℕ × LineRefusal))
+    → LinesMean number link (lines_in later) more stop
+    → LinesMean 1 None (lines_in (text ++ later)) (frames ++ more) stop) → LinesMean 1 None (lines_in text) frames None
+so_far number link text frames means =
+    subst (λ (t : List ℕ). LinesMean 1 None (lines_in t) frames None) (append-nil text)
+    (subst (λ (fs : List FrameValue). LinesMean 1 None (lines_in (text ++ [])) fs None) (append-nil frames)
+    (means [] [] None (meant.empty number link [] [] None (meant.none (number + 1) link))))
+
+pub doing-broken : (before now after held mid holds : Option (List ℕ)) (number : ℕ) (link : Option ℕ)
+    (part : List ℕ) → Doing before now held mid number link → Consumes now after part → StopsAt part 10
+    → Appends mid holds [] → HasBroken (IsBegun link) before after held holds
+doing-broken before now after held mid holds number link part d reads one a = record {
+  part = part;
+  one_line = one;
+  ran = record {
+    text = d.text;
+    frames = d.frames;
+    bytes = d.bytes;
+    read = Consumes-trans before now after d.text part d.read reads;
+    means = so_far number link d.text d.frames d.means;
+    is_written = d.begun;
+    written = same_written held mid holds d.bytes d.written a;
+  };
+}
+
+stops_at : (line : List ℕ) (is_ended : Bool) → All (λ c. c ≢ 10) line → StopsAt (line ++ line_end is_ended) 10
+stops_at line true h =
+    subst (λ (l : List ℕ). All (λ c. c ≢ 10) l)
+    (sym (take_at line (10 ∷ []) (length (line ++ 10 ∷ []) - 1) (omega (arith, length_push line 10)))) h
+stops_at line false h =
+    All-take (λ c. c ≢ 10) (length (line ++ []) - 1) (line ++ [])
+    (subst (λ (l : List ℕ). All (λ c. c ≢ 10) l) (sym (append-nil line)) h)
+
+refused_lines : (line : List ℕ) (is_ended : Bool) → All (λ c. c ≢ 10) line
+    → (later : List (List ℕ)) × (lines_in (line ++ line_end is_ended) ≡ line ∷ later)
+refused_lines line true h = (lines_in [], lines-ended line [] h)
+refused_lines line false h = ([], ap lines_in (append-nil line) ∙ lines-last line h)
+
+after_line : (before now after held mid holds : Option (List ℕ)) (number : ℕ) (link : Option ℕ) (line : List ℕ)
+    (is_ended : Bool) (told : Option LineRefusal) → Doing before now held mid number link
+    → ReadsLine now after line is_ended → 0 < length line → IfTold (λ r. LineMeans link line (Err r)) told
+    → Appends mid holds [] → AfterLine (IsBegun link) before after held holds number told
+after_line before now after held mid holds number link line is_ended None d r some means a =
+    doing-broken before now after held mid holds number link (line ++ line_end is_ended) d r.read
+    (stops_at line is_ended r.one_line) a
+after_line before now after held mid holds number link line is_ended (Some told) d r some means a =
+    let lines = refused_lines line is_ended r.one_line in
+    record {
+      text = d.text ++ (line ++ line_end is_ended);
+      frames = d.frames ++ [];
+      bytes = d.bytes;
+      read =
+          subst (λ (bs : List ℕ). Consumes before after bs) (sym (append-nil (d.text ++ (line ++ line_end is_ended))))
+          (Consumes-trans before now after d.text (line ++ line_end is_ended) d.read r.read);
+      means =
+          d.means (line ++ line_end is_ended) [] (Some (number, told))
+          (subst (λ (ls : List (List ℕ)). LinesMean number link ls [] (Some (number, told))) (sym lines.1)
+          (meant.refused number link line lines.0 told some means));
+      is_written = subst (λ (fs : List FrameValue). IsBegun link fs d.bytes) (sym (append-nil d.frames)) d.begun;
+      written = same_written held mid holds d.bytes d.written a;
+    }
+
+pub doing-refused : (before now after held mid holds : Option (List ℕ)) (number : ℕ) (link linked : Option ℕ)
+    (line : List ℕ) (is_ended : Bool) (stop : Stop) → Doing before now held mid number link
+    → ReadsLine now after line is_ended → RefusesLine number line mid holds link linked stop
+    → AfterLine (IsBegun linked) before after held holds stop.line (fault_view stop.fault)
+doing-refused before now after held mid holds number link linked line is_ended stop d r f =
+    subst (λ (n : ℕ). AfterLine (IsBegun linked) before after held holds n (fault_view stop.fault)) (sym f.line)
+    (subst (λ (l : Option ℕ). AfterLine (IsBegun l) before after held holds number (fault_view stop.fault))
+    (sym f.same_link)
+    (after_line before now after held mid holds number link line is_ended (fault_view stop.fault) d r f.some f.means
+    f.unwritten))
+
+-- .. in a run, by the fault of the line
+pub doing-fault : (before now after held mid holds : Option (List ℕ)) (number : ℕ) (link linked : Option ℕ)
+    (line : List ℕ) (is_ended : Bool) (fault : RunFault) → Doing before now held mid number link
+    → ReadsLine now after line is_ended → AfterTaking number line mid holds link linked fault
+    → AfterFault (IsBegun linked) before after held holds fault
+doing-fault before now after held mid holds number link linked line is_ended (runs.Line stop) d r f =
+    doing-refused before now after held mid holds number link linked line is_ended stop d r f
+doing-fault before now after held mid holds number link linked line is_ended (runs.Input error) d r f = absurd f
+doing-fault before now after held mid holds number link linked line is_ended (runs.Output error) d r f = tt
+
+-- ---- the end
+
+ran-ends : (link : Option ℕ) (before after held mid holds : Option (List ℕ)) (stop : Option (ℕ × LineRefusal))
+    (part : List ℕ) → Ran (IsBegun link) before after held mid stop part → Ends link mid holds
+    → Ran IsTheCapture before after held holds stop part
+ran-ends link before after held mid holds stop part r e = record {
+  text = r.text;
+  frames = r.frames;
+  bytes = r.bytes ++ e.more;
+  read = r.read;
+  means = r.means;
+  is_written = e.whole r.frames r.bytes r.is_written;
+  written = Appends-trans held mid holds r.bytes e.more r.written e.written;
+}
+
+pub made-ends : (link : Option ℕ) (before after held mid holds : Option (List ℕ))
+    → HasMade (IsBegun link) before after held mid → Ends link mid holds
+    → HasMade IsTheCapture before after held holds
+made-ends link before after held mid holds m e = record {
+  ran = ran-ends link before after held mid holds None [] m.ran e;
+  at_end = m.at_end;
+}
+
+broken-ends : (link : Option ℕ) (before after held mid holds : Option (List ℕ))
+    → HasBroken (IsBegun link) before after held mid → Ends link mid holds
+    → HasBroken IsTheCapture before after held holds
+broken-ends link before after held mid holds b e = record {
+  part = b.part;
+  one_line = b.one_line;
+  ran = ran-ends link before after held mid holds None b.part b.ran e;
+}
+
+line-ends : (link : Option ℕ) (before after held mid holds : Option (List ℕ)) (line : ℕ) (told : Option LineRefusal)
+    → AfterLine (IsBegun link) before after held mid line told → Ends link mid holds
+    → AfterLine IsTheCapture before after held holds line told
+line-ends link before after held mid holds line None h e = broken-ends link before after held mid holds h e
+line-ends link before after held mid holds line (Some r) h e =
+    ran-ends link before after held mid holds (Some (line, r)) [] h e
+
+pub fault-ends : (link : Option ℕ) (before after held mid holds : Option (List ℕ)) (fault : RunFault)
+    → AfterFault (IsBegun link) before after held mid fault → Ends link mid holds
+    → AfterFault IsTheCapture before after held holds fault
+fault-ends link before after held mid holds (runs.Line stop) h e =
+    line-ends link before after held mid holds stop.line (fault_view stop.fault) h e
+fault-ends link before after held mid holds (runs.Input error) h e =
+    broken-ends link before after held mid holds h e
+fault-ends link before after held mid holds (runs.Output error) h e = tt

@@ -1,0 +1,14 @@
+use Rattle.std.proofs.Common.{List, [], ◌∷◌, ◌++◌, codes, map, ap, sym, ◌∙◌}
+use Rattle.serde_json.specs.View.{view}
+use Rattle.ether_fields.specs.Rows.{Row}
+use Rattle.ether_make.specs.Objects.{unknown_member}
+use Rattle.ether_make.proofs.FrameLemmas.{frame-link_fault}
+use Rattle.ether_make.proofs.frame.make_frame.Goals as goal
+
+pub returns-in-Err-told_link : goal.returns-in-Err-told_link
+returns-in-Err-told_link c =
+    frame-link_fault (view c.args.object.now) c.in-Ok.bytes.items c.in-Err-told_link.fault
+    (ap (λ (rows : List Row). unknown_member (map (λ r. r.name) rows ++ (codes "headers" ∷ codes "rest" ∷ []))
+    (view c.args.object.now)) (sym c.fields.ensures.rows)
+    ∙ sym c.in_default.ensures)
+    c.in-Ok.ensures c.in-Err-told_link.ensures

@@ -1,0 +1,7 @@
+use Rattle.ether_make.proofs.ProgramLemmas.{Doing}
+use Rattle.ether_make.proofs.program.make_lines.Given as goal
+
+abbrev pub invariant-loop-number : goal.invariant-loop-number
+invariant-loop-number g l =
+    Doing (g.R.Read.remaining l.fn.reader) (g.R.Read.remaining l.reader) (g.W.Write.contents l.fn.writer)
+    (g.W.Write.contents l.writer) l.number l.link
