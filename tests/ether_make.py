@@ -22,12 +22,13 @@ from programs import count
 
 @dataclass
 class Frame:
-    """Lines, and the frames that they mean, which have a link type (1, 113 and 276 of the tcpdump group)."""
+    """Lines, and the frames that they mean, which have a link type (1, 113 and 276 of the tcpdump group) and a time."""
 
     name: str
     lines: str
     frames: list
     link: int = 1
+    time: tuple = (0, 0)
 
 
 @dataclass
@@ -113,6 +114,16 @@ FRAMES = [
           ["0806" "0001" "00000000" "0001" "00" "08" "0102030405060708" "0001" "0800" "06" "04" "0001" + "00" * 20], 276),
     Frame("a link type without headers", line(link=105, rest={"bytes": "08"}), ["08"], 105),
     Frame("frames of one link type", line(link=276) + line({"header": "sll2", "addr_len": 0}), ["", "00" * 8 + "0001" "00" "00" + "00" * 8], 276),
+    # the times of `date -u -d @SECONDS`
+    Frame("a time", line(time="2023-11-14T22:13:20.000001000Z"), [""], 1, (1_700_000_000, 1000)),
+    Frame("a time of null", line(time=None), [""]),
+    Frame("a time without decimals", line(time="2023-11-14T22:13:20Z"), [""], 1, (1_700_000_000, 0)),
+    Frame("a time with one decimal", line(time="2023-11-14T22:13:20.5Z"), [""], 1, (1_700_000_000, 500_000_000)),
+    Frame("the last nanosecond of a second", line(time="1970-01-01T00:00:00.999999999Z"), [""], 1, (0, 999_999_999)),
+    Frame("a leap day", line(time="2024-02-29T12:00:00Z"), [""], 1, (1_709_208_000, 0)),
+    Frame("a leap day of a century", line(time="2000-02-29T00:00:00Z"), [""], 1, (951_782_400, 0)),
+    Frame("the last second of a year", line(time="2025-12-31T23:59:59Z"), [""], 1, (1_767_225_599, 0)),
+    Frame("the last second with 32 bits", line(time="2106-02-07T06:28:15.999999999Z"), [""], 1, (4_294_967_295, 999_999_999)),
     Frame("bytes after the headers", line({**ETH, "type": 2048}, rest={"kind": "ether_type", "type": 2048, "bytes": "4500001C"}),
           [ADDRESSES + "0800" "4500001c"]),
     Frame("a rest without bytes", line(ETH, rest={"start": 14, "end": 60, "kind": "ether_type", "type": None}), [ADDRESSES + "0000"]),
@@ -211,6 +222,28 @@ REFUSED = [
     Refused("a comment", "// []\n", "line 1: this is no JSON text"),
     Refused("a number in hexadecimal", '{"headers":[{"header":"eth","type":0x800}]}\n', "line 1: this is no JSON text"),
     Refused("a line of spaces", "  \n", "line 1: this is no JSON text"),
+    Refused("a time with 33 bits", line(time="2106-02-07T06:28:16Z"), "line 1: time is a time before 1970 or after 7 February 2106"),
+    Refused("a time before 1970", line(time="1969-12-31T23:59:59.999999999Z"), "line 1: time is a time before 1970 or after 7 February 2106"),
+    Refused("the year 0", line(time="0000-01-01T00:00:00Z"), "line 1: time is a time before 1970 or after 7 February 2106"),
+    Refused("the year 9999", line(time="9999-12-31T23:59:59Z"), "line 1: time is a time before 1970 or after 7 February 2106"),
+    Refused("a time of the year 10000", '{"time":253402300800.000000000,"headers":[]}\n', "line 1: time is no text"),
+    Refused("a time that is empty", line(time=""), "line 1: time is no date and time of day in UTC"),
+    Refused("a date alone", line(time="2023-11-14"), "line 1: time is no date and time of day in UTC"),
+    Refused("a time with an offset", line(time="2023-11-14T22:13:20+01:00"), "line 1: time is no date and time of day in UTC"),
+    Refused("a time without Z", line(time="2023-11-14T22:13:20.000001000"), "line 1: time is no date and time of day in UTC"),
+    Refused("a point without decimals", line(time="2023-11-14T22:13:20.Z"), "line 1: time is no date and time of day in UTC"),
+    Refused("ten decimals", line(time="2023-11-14T22:13:20.0000000001Z"), "line 1: time is no date and time of day in UTC"),
+    Refused("a decimal that is none", line(time="2023-11-14T22:13:20.00000000aZ"), "line 1: time is no date and time of day in UTC"),
+    Refused("a space in place of T", line(time="2023-11-14 22:13:20Z"), "line 1: time is no date and time of day in UTC"),
+    Refused("29 February of a year that has none", line(time="2023-02-29T00:00:00Z"), "line 1: time is no date and time of day in UTC"),
+    Refused("29 February 2100", line(time="2100-02-29T00:00:00Z"), "line 1: time is no date and time of day in UTC"),
+    Refused("31 April", line(time="2023-04-31T00:00:00Z"), "line 1: time is no date and time of day in UTC"),
+    Refused("a day of 0", line(time="2023-04-00T00:00:00Z"), "line 1: time is no date and time of day in UTC"),
+    Refused("a month of 0", line(time="2023-00-01T00:00:00Z"), "line 1: time is no date and time of day in UTC"),
+    Refused("a month of 13", line(time="2023-13-01T00:00:00Z"), "line 1: time is no date and time of day in UTC"),
+    Refused("an hour of 24", line(time="2023-04-01T24:00:00Z"), "line 1: time is no date and time of day in UTC"),
+    Refused("a minute of 60", line(time="2023-04-01T23:60:00Z"), "line 1: time is no date and time of day in UTC"),
+    Refused("a leap second", line(time="2016-12-31T23:59:60Z"), "line 1: time is no date and time of day in UTC"),
     Refused("a check sequence", line({**ETH, "fcs": "00:00:00:00"}), "line 1: header 0: fcs is a field that this header does not have"),
     Refused("a rest that is no object", line(ETH, rest=5), "line 1: rest is no object"),
     Refused("a member of the rest", line(ETH, rest={"text": ""}), "line 1: text is no member of this object"),
@@ -226,9 +259,9 @@ def made(program, lines):
     return done.stdout, done.stderr.decode(), done.returncode
 
 
-def capture_of(frames, link=1):
-    """A capture with times of 0 (draft-ietf-opsawg-pcap, sections 4 and 5)."""
-    return struct.pack("<IHHIIII", 0xA1B23C4D, 2, 4, 0, 0, 262_144, link) + b"".join(struct.pack("<IIII", 0, 0, len(frame), len(frame)) + frame for frame in frames)
+def capture_of(frames, link=1, time=(0, 0)):
+    """A capture whose frames all have one time (draft-ietf-opsawg-pcap, sections 4 and 5)."""
+    return struct.pack("<IHHIIII", 0xA1B23C4D, 2, 4, 0, 0, 262_144, link) + b"".join(struct.pack("<IIII", *time, len(frame), len(frame)) + frame for frame in frames)
 
 
 def frames_of(capture):
@@ -242,7 +275,7 @@ def frames_of(capture):
 
 def frame_cases(program):
     for case in FRAMES:
-        yield case.name, made(program, case.lines), (capture_of([bytes.fromhex(it) for it in case.frames], case.link), "", 0)
+        yield case.name, made(program, case.lines), (capture_of([bytes.fromhex(it) for it in case.frames], case.link, case.time), "", 0)
     longest = line(ETH, rest={"bytes": "00" * (262_144 - 14)})
     yield "the longest frame", made(program, longest), (capture_of([bytes.fromhex(ADDRESSES + "0000") + bytes(262_130)]), "", 0)
 

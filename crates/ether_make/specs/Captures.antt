@@ -17,9 +17,14 @@ header_of_capture link = record {
   fcs_len = None;
 }
 
--- a frame that is not cut, at the beginning of 1970
+-- a frame that is not cut
 abbrev pub record_of : FrameValue → RecordValue
-record_of frame = record { seconds = 0; fraction = 0; original_len = length frame.packet; packet = frame.packet }
+record_of frame = record {
+  seconds = frame.time.seconds;
+  fraction = frame.time.nanoseconds;
+  original_len = length frame.packet;
+  packet = frame.packet;
+}
 
 pub record IsHeaderOf (link : ℕ) (bytes : List ℕ) : Type 0 where
   pub len : length bytes ≡ 24

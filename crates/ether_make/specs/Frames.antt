@@ -6,15 +6,18 @@ use Rattle.serde_json.specs.Find.{as_array, as_object, as_str}
 use Rattle.ether_fields.specs.declared.section.Section.{Section}
 use Rattle.ether_fields.specs.declared.section.Section.TheVariants.{Frame, Eth, Sll, Sll2, Rest}
 use Rattle.ether_make.specs.declared.refusal.Reason.{Reason}
+use Rattle.ether_make.specs.declared.time_text.Time.{Time}
+use Rattle.ether_make.specs.Times.{time}
 use Rattle.ether_make.specs.declared.refusal.Reason.TheVariants.{Missing, NotANumber, NotAnArray, NotAnObject, NotAText, NotBytes, NotALink, TooBig, OtherHeader}
 use Rattle.ether_make.specs.Headers.{headers_bytes, names, next_in, told, unless_unknown}
 use Rattle.ether_make.specs.Objects.{given, listed, number_of, unknown_member}
 use Rattle.ether_make.specs.Refusals.{Meaning, refused, joined}
 use Rattle.ether_make.specs.Texts.{hex_bytes}
 
--- a frame: the link type of its capture, and its bytes
+-- a frame: the link type of its capture, its time, and its bytes
 pub record FrameValue : Type 0 where
   pub link : ℕ
+  pub time : Time
   pub packet : List ℕ
 
 -- ---- its headers
@@ -110,13 +113,15 @@ frame_names = names Frame ++ codes "headers" ∷ codes "rest" ∷ []
 abbrev pub frame_bytes : Data → Meaning (List ℕ)
 frame_bytes d = joined (front (given (codes "headers") d)) (rest (given (codes "rest") d))
 
-abbrev pub framed : Meaning (List ℕ) → Meaning ℕ → Meaning FrameValue
-framed (Err r) link = Err r
-framed (Ok bytes) (Err r) = Err r
-framed (Ok bytes) (Ok link) = Ok (record { link = link; packet = bytes })
+abbrev pub framed : Meaning (List ℕ) → Meaning ℕ → Meaning Time → Meaning FrameValue
+framed (Err r) link t = Err r
+framed (Ok bytes) (Err r) t = Err r
+framed (Ok bytes) (Ok link) (Err r) = Err r
+framed (Ok bytes) (Ok link) (Ok t) = Ok (record { link = link; time = t; packet = bytes })
 
 abbrev pub frame_meaning : Data → Meaning FrameValue
 frame_meaning d =
     unless_unknown None (unknown_member frame_names d)
     (framed (frame_bytes d)
-    (told None (codes "link") (frame_link (first_header (given (codes "headers") d)) (given (codes "link") d))))
+    (told None (codes "link") (frame_link (first_header (given (codes "headers") d)) (given (codes "link") d)))
+    (told None (codes "time") (time (given (codes "time") d))))

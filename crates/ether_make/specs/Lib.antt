@@ -5,6 +5,7 @@ pub mod Objects
 pub mod FieldBits
 pub mod Sizes
 pub mod Headers
+pub mod Times
 pub mod Frames
 pub mod FrameViews
 pub mod Lines

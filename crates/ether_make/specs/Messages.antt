@@ -3,7 +3,7 @@ use Rattle.std.specs.Prelude.{ℕ, List, codes}
 use Rattle.ether_make.specs.declared.lines.LineFault.{LineFault}
 use Rattle.ether_make.specs.declared.lines.LineFault.TheVariants.{Memory}
 use Rattle.ether_make.specs.declared.refusal.Reason.{Reason}
-use Rattle.ether_make.specs.declared.refusal.Reason.TheVariants.{Unknown, Missing, NotAnObject, NotAnArray, NotANumber, NotAText, NotBytes, NotAHeader, NotALink, TooBig, OtherLength, Absent, OtherHeader, OtherFrames}
+use Rattle.ether_make.specs.declared.refusal.Reason.TheVariants.{Unknown, Missing, NotAnObject, NotAnArray, NotANumber, NotAText, NotBytes, NotAHeader, NotALink, TooBig, OtherLength, Absent, NotATime, OtherTime, OtherHeader, OtherFrames}
 
 -- after the member's name
 abbrev pub reason_text : Reason → List ℕ
@@ -19,6 +19,8 @@ reason_text NotALink = codes "names a header that begins no frame"
 reason_text TooBig = codes "has more bits than the field"
 reason_text OtherLength = codes "has another number of bytes than the field"
 reason_text Absent = codes "is a field that this header does not have"
+reason_text NotATime = codes "is no date and time of day in UTC"
+reason_text OtherTime = codes "is a time before 1970 or after 7 February 2106"
 reason_text OtherHeader = codes "is not the link type of the first header"
 reason_text OtherFrames = codes "is not the link type of the frames before"
 

@@ -67,14 +67,14 @@ fn write_header<W: Write>(writer: &mut W, link: u16) -> io::Result<()>
     Ok(())
 }
 
-/// Writes the record of a frame, at the beginning of 1970.
+/// Writes the record of a frame.
 fn write_record<W: Write>(writer: &mut W, frame: &Frame) -> io::Result<()>
     ensures { OnOk result (length frame.now.bytes.items ≤ longest
         → WritesPart (IsRecordOf (frame_view frame.now)) (W.contents writer.old) (W.contents writer.new)) }
 {
     let record = PcapRecord {
-        seconds: 0,
-        fraction: 0,
+        seconds: frame.time.seconds,
+        fraction: frame.time.nanoseconds,
         original_len: frame.bytes.len().min(262_144) as u32,
         packet: frame.bytes.as_slice(),
     };

@@ -8,11 +8,13 @@ ghost use Rattle.ether_make.specs.FrameViews.{frame_view};
 ghost use Rattle.ether_make.specs.Texts.{hex_bytes as hex_in};
 ghost use Rattle.ether_make.specs.Headers.{next_in, told};
 ghost use Rattle.ether_make.specs.Refusals.{Tells};
+ghost use Rattle.ether_make.specs.Times.{time};
 
 use crate::header::{headers_bytes, next_section};
 use crate::objects::{given, number_of, unknown_member};
 use crate::refusal::{Fault, Reason, Refusal};
 use crate::texts::hex_bytes;
+use crate::time_text::{Time, given_time};
 use ether_fields::Section;
 use serde_json::Value;
 use std::alloc::Global;
@@ -22,6 +24,8 @@ use std::alloc::Global;
 pub struct Frame {
     /// The link type of its capture.
     pub link: u16,
+    /// Its time.
+    pub time: Time,
     /// Its bytes.
     pub bytes: Vec<u8>,
 }
@@ -37,9 +41,23 @@ pub fn make_frame<'v>(alloc: Global, object: &'v Value) -> Result<Frame, Fault<'
         Ok(bytes) => bytes,
         Err(fault) => return Err(fault),
     };
-    match told_link(object) {
-        Ok(link) => Ok(Frame { link, bytes }),
+    let link = match told_link(object) {
+        Ok(link) => link,
+        Err(fault) => return Err(fault),
+    };
+    match told_time(object) {
+        Ok(time) => Ok(Frame { link, time, bytes }),
         Err(fault) => Err(fault),
+    }
+}
+
+/// The time of a frame, or the refusal of the member.
+fn told_time<'v>(object: &'v Value) -> Result<Time, Fault<'v>>
+    ensures { Tells (λ t. t) (told None (codes "time") (time (given_in (codes "time") (view object.now)))) result }
+{
+    match given_time(given(object, "time")) {
+        Ok(time) => Ok(time),
+        Err(reason) => Err(refused("time", reason)),
     }
 }
 

@@ -16,6 +16,7 @@ pub mod program;
 pub mod refusal;
 pub mod sizes;
 pub mod texts;
+pub mod time_text;
 
 use lines::Stop;
 use program::RunFault;

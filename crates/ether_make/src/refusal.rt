@@ -29,6 +29,10 @@ pub enum Reason {
     OtherLength,
     /// The header does not have the field.
     Absent,
+    /// The text is no time.
+    NotATime,
+    /// A capture can't have the time.
+    OtherTime,
     /// The first header has another link type.
     OtherHeader,
     /// The frames before have another link type.
@@ -73,6 +77,8 @@ impl Reason {
             Reason::TooBig => "has more bits than the field",
             Reason::OtherLength => "has another number of bytes than the field",
             Reason::Absent => "is a field that this header does not have",
+            Reason::NotATime => "is no date and time of day in UTC",
+            Reason::OtherTime => "is a time before 1970 or after 7 February 2106",
             Reason::OtherHeader => "is not the link type of the first header",
             Reason::OtherFrames => "is not the link type of the frames before",
         }
