@@ -1,6 +1,6 @@
 """Tests what `ether_make` writes and how it ends.
 
-    python3 tests/ether_make.py PROGRAM [WORD]
+    python3 tests/ether_make.py PROGRAM [WORD] [--capture ETHER_CAPTURE]
 
 PROGRAM is the built program, WORD one that the names of the cases have which are run, all if it is left out. The frames that are expected
 were written by hand, field by field, from the standards; if scapy and tshark are there, frames are also compared with scapy's, and the
@@ -306,6 +306,19 @@ def word_cases(program):
     with open(os.path.join(os.path.dirname(os.path.abspath(__file__)), "..", "VERSION"), encoding="utf-8") as file:
         yield "--version", said("--version"), (f"ether_make {file.read().strip()}\n", "", 0)
     yield "--help", said("--help")[0].splitlines()[0], "Usage: ether_make < LINES > CAPTURE"
+    with subprocess.Popen([program], stdin=subprocess.PIPE, stdout=subprocess.PIPE, stderr=subprocess.PIPE) as closed:
+        closed.stdout.close()
+        closed.stdin.write(line(ETH).encode())
+        closed.stdin.close()
+        yield "nobody reads the capture", (closed.stderr.read(), closed.wait()), (b"", 4)
+    if os.path.exists("/dev/full"):
+        with open("/dev/full", "wb") as full:
+            done = subprocess.run([program], input=line(ETH).encode(), stdout=full, stderr=subprocess.PIPE, check=False)
+        yield "a full disk", (done.stderr, done.returncode), (b"ether_make: standard output: No space left on device (os error 28)\n", 4)
+    folder = os.open(".", os.O_RDONLY)
+    done = subprocess.run([program], stdin=folder, capture_output=True, check=False)
+    os.close(folder)
+    yield "a folder", (done.stdout, done.stderr, done.returncode), (capture_of([]), b"ether_make: standard input: Is a directory (os error 21)\n", 4)
     yield "a wrong word", said("--hex"), ("", "ether_make: --hex: there is no such word; try --help\n", 2)
 
 
@@ -346,18 +359,70 @@ def tshark_cases(program):
     request = made(program, FRAMES[10].lines)[0]
     read = subprocess.run(words, input=request, capture_output=True, check=False)
     yield "tshark's ARP request", read.stdout.decode(), "42\t02:00:00:00:00:01\t\t10.9.0.2\n"
-    whole = made(program, line(ETH, {"header": "vlan", "vid": 5}, {"header": "arp"}))[0]
-    read = subprocess.run(["tshark", "-r", "-", "-V"], input=whole, capture_output=True, check=False)
-    yield "nothing malformed", b"Malformed" in read.stdout, False
+    example = next(case for case in FRAMES if "example of MACsec" in case.name)
+    sll = {"header": "sll", "packet_type": 4, "addr": "02:00:00:00:00:01"}
+    sll2 = {"header": "sll2", "if_index": 7, "packet_type": 4, "addr": "02:00:00:00:00:01"}
+    whole = [("a tag", line(ETH, {"header": "vlan", "vid": 5}, {"header": "arp"}), ["vlan.id", "arp.opcode"], "5\t1"),
+             ("the example of MACsec", example.lines, ["macsec.AN", "macsec.SL", "macsec.PN", "macsec.SCI.system_identifier"],
+              "0x02\t42\t2999092325\t12:15:35:24:c0:89"),
+             ("a cooked frame", line(sll, {"header": "arp", "op": 2}, time="2023-11-14T22:13:20.000001000Z"),
+              ["frame.time_epoch", "sll.pkttype", "sll.halen", "sll.src.eth", "sll.etype", "arp.opcode"],
+              "1700000000.000001000\t4\t6\t02:00:00:00:00:01\t0x0806\t2"),
+             ("a cooked frame of version 2", line(sll2, {"header": "arp", "op": 2}), ["sll.ifindex", "sll.pkttype", "sll.src.eth", "sll.etype"],
+              "7\t4\t02:00:00:00:00:01\t0x0806")]
+    for name, lines, fields, wanted in whole:
+        capture = made(program, lines)[0]
+        words = ["tshark", "-r", "-", "-T", "fields", *(word for field in fields for word in ("-e", field))]
+        read = subprocess.run(words, input=capture, capture_output=True, check=False)
+        yield f"tshark's fields: {name}", read.stdout.decode(), f"{wanted}\n"
+        read = subprocess.run(["tshark", "-r", "-", "-V"], input=capture, capture_output=True, check=False)
+        yield f"nothing malformed: {name}", (len(read.stdout) > 0, b"alformed" in read.stdout), (True, False)
+
+
+# Gives the outermost VLAN tag with identifier 5 the identifier 7, as `--set-vlan 5:7` does.
+SET_VLAN = """(.headers | map(.header == "vlan" and .vid == 5) | index(true)) as $i
+              | if $i != null then .headers[$i].vid = 7 else . end"""
+
+
+def printed_cases(program, capture):
+    """What `ether_capture` prints of frames, as it is and after jq changed it."""
+    if not os.path.exists(capture):
+        print("without ether_capture")
+        return
+    tag, sectag = {"header": "vlan", "vid": 5}, {"header": "macsec", "an": 3, "es": 1, "sci": "02:00:00:00:00:01:00:01"}
+    frames = {1: [line(ETH, tag, {"header": "arp"}, time="2023-11-14T22:13:20.000001000Z"), line(ETH, {**tag, "vid": 6}, tag, {"header": "arp"}),
+                  line(ETH, {**tag, "pcp": 7, "dei": 1, "type": 2048}), line({**ETH, "type": 34525}, time="2106-02-07T06:28:15.999999999Z"),
+                  line(ETH, sectag), line(ETH, {"header": "macsec", "e": 1, "c": 1}), line(ETH, tag, sectag, tag, {"header": "arp", "op": 2}),
+                  line(ETH, {"header": "arp", "hln": 0, "pln": 16})],
+              113: [line({"header": "sll", "addr": "02:00:00:00:00:01"}, tag, {"header": "arp"}), line({"header": "sll", "addr_len": 0}),
+                    line({"header": "sll", "hw_type": 32, "addr_len": 20, "addr": "01:02:03:04:05:06:07:08", "protocol": 2048})],
+              276: [line({"header": "sll2", "if_index": 7, "addr": "02:00:00:00:00:01"}, tag, {"header": "arp"}), line({"header": "sll2", "packet_type": 4})]}
+    for link, lines in frames.items():
+        made_first = made(program, "".join(lines))[0]
+        printed = subprocess.run([capture, "--format", "json"], input=made_first, capture_output=True, check=False).stdout
+        yield f"what ether_capture prints, link type {link}", made(program, printed.decode()), (made_first, "", 0)
+        if link == 276:
+            continue  # --set-vlan leaves these frames alone
+        if not shutil.which("jq"):
+            print("without jq")
+            continue
+        changed = subprocess.run(["jq", "-c", SET_VLAN], input=printed, capture_output=True, check=False).stdout
+        copy = subprocess.run([capture, "--set-vlan", "5:7", "--write"], input=made_first, capture_output=True, check=False).stdout
+        remade = made(program, changed.decode())
+        yield f"tags that jq set, link type {link}", (frames_of(remade[0]), remade[1:]), (frames_of(copy), ("", 0))
+        yield f"jq set tags, link type {link}", (len(frames_of(remade[0])), remade[0] != made_first), (len(lines), True)
 
 
 def main():
     words = argparse.ArgumentParser(description=__doc__, formatter_class=argparse.RawDescriptionHelpFormatter)
     words.add_argument("program", metavar="PROGRAM")
     words.add_argument("word", metavar="WORD", nargs="?", default="")
+    words.add_argument("--capture", metavar="PROGRAM", help="the program ether_capture; without it, the one that is built next to PROGRAM")
     given = words.parse_args()
+    capture = given.capture or os.path.join(os.path.dirname(given.program), "..", "..", "ether_capture", "out", "ether_capture")
     cases = [*frame_cases(given.program), *memory_cases(given.program), *refused_cases(given.program), *word_cases(given.program),
-             *scapy_cases(given.program), *tshark_cases(given.program)]
+             *scapy_cases(given.program), *tshark_cases(given.program),
+             *printed_cases(given.program, capture)]
     return count((name, got, wanted) for name, got, wanted in cases if given.word in name)
 
 

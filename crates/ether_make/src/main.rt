@@ -1,7 +1,7 @@
 //! Makes frames from objects of JSON, one in each line of standard input, and writes them as a capture to standard
 //! output.
 //!
-//! `main` calls [`program::run`] on the standard streams. A message why no capture is made goes to standard
+//! `main` calls [`program::run`] on the standard streams. A message why not all frames are made goes to standard
 //! error.
 #![tactic(auto)]
 
@@ -21,7 +21,7 @@ pub mod time_text;
 use lines::Stop;
 use program::RunFault;
 use std::env;
-use std::io::BufWriter;
+use std::io::{BufWriter, ErrorKind};
 use std::process::ExitCode;
 
 /// What `--version` prints, before an LF.
@@ -61,10 +61,11 @@ fn main(rt: HostRuntime) -> ExitCode {
     }
 }
 
-/// Says why no capture was made, and returns the exit status.
+/// Says why not all frames were made, unless nobody reads them any more, and returns the exit status.
 fn tell(rt: HostRuntime, fault: &RunFault) -> u8 {
     let (told, status) = match fault {
         RunFault::Input(error) => (eprintln!(rt; "ether_make: standard input: {error}"), 4),
+        RunFault::Output(error) if error.kind() == ErrorKind::BrokenPipe => (Ok(()), 4),
         RunFault::Output(error) => (eprintln!(rt; "ether_make: standard output: {error}"), 4),
         RunFault::Line(stop) => (
             eprintln!(rt; "ether_make: {stop}"),
