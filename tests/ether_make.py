@@ -253,9 +253,9 @@ REFUSED = [
 ]
 
 
-def made(program, lines):
+def made(program, lines, *words):
     """What the program writes, what it says, and its status."""
-    done = subprocess.run([program], input=lines.encode("utf-8", "surrogateescape"), capture_output=True, check=False)
+    done = subprocess.run([program, *words], input=lines.encode("utf-8", "surrogateescape"), capture_output=True, check=False)
     return done.stdout, done.stderr.decode(), done.returncode
 
 
@@ -292,6 +292,20 @@ def memory_cases(program):
     yield "100,000 lines in 8 MiB", (hash(done.stdout), done.stderr, done.returncode), (hash(capture_of([frame] * count_of_lines)), b"", 0)
 
 
+def padded_cases(program):
+    """Frames of Ethernet have 60 bytes without their check sequence (IEEE 802.3, 3.2.8), and zeros at their end."""
+    for length in (0, 1, 45, 46, 47, 1500):
+        frame = bytes.fromhex(ADDRESSES + "0000") + b"\xff" * length
+        lines = line(ETH, rest={"bytes": "ff" * length})
+        yield f"{length} bytes and padding", made(program, lines, "--pad"), (capture_of([frame.ljust(60, b"\0")]), "", 0)
+    yield "no header and padding", made(program, line(), "--pad"), (capture_of([bytes(60)]), "", 0)
+    yield "padding asked for twice", made(program, line(), "--pad", "--pad"), (capture_of([bytes(60)]), "", 0)
+    cooked = bytes.fromhex("0000" "0001" "0006" "0000000000000000" "0000")
+    yield "no padding of a cooked frame", made(program, line({"header": "sll"}), "--pad"), (capture_of([cooked], 113), "", 0)
+    said = made(program, line(ETH) + "x\n", "--pad")
+    yield "padding before a refusal", said, (capture_of([bytes.fromhex(ADDRESSES + "0000").ljust(60, b"\0")]), "ether_make: line 2: this is no JSON text\n", 3)
+
+
 def refused_cases(program):
     for case in REFUSED:
         before = capture_of([bytes.fromhex(it) for it in case.frames], case.link)
@@ -305,7 +319,7 @@ def word_cases(program):
 
     with open(os.path.join(os.path.dirname(os.path.abspath(__file__)), "..", "VERSION"), encoding="utf-8") as file:
         yield "--version", said("--version"), (f"ether_make {file.read().strip()}\n", "", 0)
-    yield "--help", said("--help")[0].splitlines()[0], "Usage: ether_make < LINES > CAPTURE"
+    yield "--help", said("--help")[0].splitlines()[0], "Usage: ether_make [--pad] < LINES > CAPTURE"
     with subprocess.Popen([program], stdin=subprocess.PIPE, stdout=subprocess.PIPE, stderr=subprocess.PIPE) as closed:
         closed.stdout.close()
         closed.stdin.write(line(ETH).encode())
@@ -420,7 +434,7 @@ def main():
     words.add_argument("--capture", metavar="PROGRAM", help="the program ether_capture; without it, the one that is built next to PROGRAM")
     given = words.parse_args()
     capture = given.capture or os.path.join(os.path.dirname(given.program), "..", "..", "ether_capture", "out", "ether_capture")
-    cases = [*frame_cases(given.program), *memory_cases(given.program), *refused_cases(given.program), *word_cases(given.program),
+    cases = [*frame_cases(given.program), *memory_cases(given.program), *padded_cases(given.program), *refused_cases(given.program), *word_cases(given.program),
              *scapy_cases(given.program), *tshark_cases(given.program),
              *printed_cases(given.program, capture)]
     return count((name, got, wanted) for name, got, wanted in cases if given.word in name)

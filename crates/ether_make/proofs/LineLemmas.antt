@@ -1,13 +1,14 @@
 -- Lines of a text.
-use Rattle.std.proofs.Common.{◌≡◌, ◌≢◌, ℕ, ◌≤◌, List, [], ◌∷◌, ◌++◌, length, Option, Some, None, Result, Ok, Err, Bool, true, false, All, nat_eq, nat_lt, ◌==◌, if◌then◌else◌, refl, subst, ne_eqb}
+use Rattle.std.proofs.Common.{◌≡◌, ◌≢◌, ℕ, zero, suc, ◌-◌, ◌≤◌, List, [], ◌∷◌, ◌++◌, length, Option, Some, None, Result, Ok, Err, Bool, true, false, All, nat_eq, nat_lt, ◌==◌, if◌then◌else◌, refl, ap, subst, ne_eqb, arith, length-append}
 use Rattle.std.proofs.lemmas.Bool.{ltb-false}
 use Rattle.std.proofs.lemmas.List.Splits.{slice_split_none, slice_split_at}
 use Rattle.serde_json.specs.Data.{Data}
 use Rattle.ether_pcap.specs.Record.{max_captured_len}
 use Rattle.ether_make.specs.declared.frame.Frame.{Frame}
-use Rattle.ether_make.specs.Frames.{FrameValue, frame_meaning}
+use Rattle.ether_pcap.specs.Writing.{zeros}
+use Rattle.ether_make.specs.Frames.{FrameValue, frame_meaning, padded}
 use Rattle.ether_make.specs.FrameViews.{frame_view}
-use Rattle.ether_make.specs.Lines.{LineRefusal, TooLong, LineMeans, IsJson, lines_in, longest, one_link, sized}
+use Rattle.ether_make.specs.Lines.{LineRefusal, TooLong, LineMeans, IsJson, lines_in, linked, longest, one_link, sized}
 use Rattle.ether_make.specs.Lines as meant
 use Rattle.ether_make.specs.LineViews.{TellsLine, LineOf, IsNotJson, IfTold, fault_view}
 use Rattle.ether_make.specs.Refusals.{Meaning}
@@ -63,10 +64,45 @@ fits : (link : Option ℕ) (text : List ℕ) (m : Result FrameValue LineRefusal)
 fits link text m (meant.object d json) = linked-fits link (sized (frame_meaning d)) (sized-fits (frame_meaning d))
 fits link text m (meant.not_json h) = tt
 
+length-zeros : (n : ℕ) → length (zeros n) ≡ n
+length-zeros zero = refl
+length-zeros (suc n) = ap suc (length-zeros n)
+
+padded_if-fits : (frame : FrameValue) (b : Bool) → length frame.packet ≤ max_captured_len
+    → length ((if b then record frame { packet = frame.packet ++ zeros (60 - length frame.packet) } else frame).packet)
+    ≤ max_captured_len
+padded_if-fits frame false h = h
+padded_if-fits frame true h =
+    omega (
+      arith,
+      length-append frame.packet (zeros (60 - length frame.packet)),
+      length-zeros (60 - length frame.packet),
+      h,
+    )
+
+padded_if-linked : (frame : FrameValue) (b : Bool)
+    → linked None (if b then record frame { packet = frame.packet ++ zeros (60 - length frame.packet) } else frame)
+    ≡ Some frame.link
+padded_if-linked frame true = refl
+padded_if-linked frame false = refl
+
 -- a frame of a line is no longer than a packet of a capture
 pub line-fits : (link : Option ℕ) (text : List ℕ) (frame : FrameValue) → LineMeans link text (Ok frame)
     → length frame.packet ≤ max_captured_len
 line-fits link text frame h = fits link text (Ok frame) h
+
+-- .. nor is it with padding
+pub padded-fits : (pad : Bool) (frame : FrameValue) → length frame.packet ≤ max_captured_len
+    → length (padded pad frame).packet ≤ max_captured_len
+padded-fits false frame h = h
+padded-fits true frame h = padded_if-fits frame (nat_eq frame.link 1) h
+
+-- padding leaves the link type
+pub padded-linked : (pad : Bool) (link : Option ℕ) (frame : FrameValue)
+    → linked link (padded pad frame) ≡ linked link frame
+padded-linked pad (Some link) frame = refl
+padded-linked false None frame = refl
+padded-linked true None frame = padded_if-linked frame (nat_eq frame.link 1)
 
 -- ---- lines of a text
 

@@ -1,8 +1,9 @@
 -- The frame that an object means.
-use Rattle.std.specs.Prelude.{ℕ, List, [], ◌∷◌, ◌++◌, codes, Option, Some, None, unwrap_or, Result, Ok, Err, nat_eq, nat_lt, if◌then◌else◌}
+use Rattle.std.specs.Prelude.{ℕ, ◌-◌, List, [], ◌∷◌, ◌++◌, length, codes, Bool, true, false, Option, Some, None, unwrap_or, Result, Ok, Err, nat_eq, nat_lt, if◌then◌else◌}
 use Rattle.std.specs.Option.{option_and_then}
 use Rattle.serde_json.specs.Data.{Data, Items, Members}
 use Rattle.serde_json.specs.Find.{as_array, as_object, as_str}
+use Rattle.ether_pcap.specs.Writing.{zeros}
 use Rattle.ether_fields.specs.declared.section.Section.{Section}
 use Rattle.ether_fields.specs.declared.section.Section.TheVariants.{Frame, Eth, Sll, Sll2, Rest}
 use Rattle.ether_make.specs.declared.refusal.Reason.{Reason}
@@ -125,3 +126,12 @@ frame_meaning d =
     (framed (frame_bytes d)
     (told None (codes "link") (frame_link (first_header (given (codes "headers") d)) (given (codes "link") d)))
     (told None (codes "time") (time (given (codes "time") d))))
+
+-- ---- padding
+
+-- A frame of Ethernet has 64 bytes at least, with the four of its check sequence (IEEE 802.3, 3.2.8 and 4.4.2). Zeros
+-- are padded.
+abbrev pub padded : (pad : Bool) → FrameValue → FrameValue
+padded false frame = frame
+padded true frame =
+    if nat_eq frame.link 1 then record frame { packet = frame.packet ++ zeros (60 - length frame.packet) } else frame

@@ -3,7 +3,7 @@ use Rattle.std.specs.Prelude.{◌≡◌, ℕ, ◌<◌, List, [], ◌∷◌, ◌+
 use Rattle.std.specs.Io.KnownBytes.{Appends, Consumes, IsAtEnd}
 use Rattle.std.specs.Io.{StopsAt}
 use Rattle.ether_make.specs.Captures.{Grows, IsBegun, IsTheCapture}
-use Rattle.ether_make.specs.Frames.{FrameValue}
+use Rattle.ether_make.specs.Frames.{FrameValue, padded}
 use Rattle.ether_make.specs.Lines.{LineMeans, LineRefusal, LinesMean, lines_in, linked}
 use Rattle.ether_make.specs.LineViews.{IfTold, fault_view}
 use Rattle.ether_make.specs.declared.lines.Stop.{Stop}
@@ -67,10 +67,11 @@ pub record BreaksLine (before after : Option (List ℕ)) (line : List ℕ) : Typ
   pub one_line : StopsAt line 10
 
 -- a writer takes the frame of a line, or nothing of an empty one
-pub data TakesLine (text : List ℕ) (held holds : Option (List ℕ)) : (link after : Option ℕ) → Type 0 where
-  empty : (link : Option ℕ) → length text ≡ 0 → Appends held holds [] → TakesLine text held holds link link
+pub data TakesLine (pad : Bool) (text : List ℕ) (held holds : Option (List ℕ)) : (link after : Option ℕ) → Type 0 where
+  empty : (link : Option ℕ) → length text ≡ 0 → Appends held holds [] → TakesLine pad text held holds link link
   frame : (link : Option ℕ) (frame : FrameValue) → 0 < length text → LineMeans link text (Ok frame)
-      → Grows link (linked link frame) frame held holds → TakesLine text held holds link (linked link frame)
+      → Grows link (linked link frame) (padded pad frame) held holds
+      → TakesLine pad text held holds link (linked link frame)
 
 -- a line is refused, or there is no memory, and nothing is written
 pub record RefusesLine (number : ℕ) (text : List ℕ) (held holds : Option (List ℕ)) (link after : Option ℕ) (stop : Stop)

@@ -1,9 +1,10 @@
 //! The frame that an object means.
-ghost use Rattle.std.specs.Prelude.{◌≡◌, None, codes, map};
+ghost use Rattle.std.specs.Prelude.{◌≡◌, ◌++◌, ◌-◌, None, IfOk, codes, length, map};
+ghost use Rattle.ether_pcap.specs.Writing.{zeros};
 ghost use Rattle.std.specs.Option.{option_map};
 ghost use Rattle.serde_json.specs.View.{view};
 ghost use Rattle.ether_make.specs.Objects.{given as given_in};
-ghost use Rattle.ether_make.specs.Frames.{front as front_in, front_of as front_of_in, rest as rest_of_in, rest_bytes as rest_bytes_in, spelled_rest, frame_bytes as frame_bytes_in, frame_meaning, link_of as link_of_in, first_header as first_header_in, usual_link as usual_link_in, frame_link as frame_link_in};
+ghost use Rattle.ether_make.specs.Frames.{front as front_in, front_of as front_of_in, rest as rest_of_in, rest_bytes as rest_bytes_in, spelled_rest, frame_bytes as frame_bytes_in, frame_meaning, link_of as link_of_in, first_header as first_header_in, usual_link as usual_link_in, frame_link as frame_link_in, padded as padded_in};
 ghost use Rattle.ether_make.specs.FrameViews.{frame_view};
 ghost use Rattle.ether_make.specs.Texts.{hex_bytes as hex_in};
 ghost use Rattle.ether_make.specs.Headers.{next_in, told};
@@ -17,7 +18,7 @@ use crate::texts::hex_bytes;
 use crate::time_text::{Time, given_time};
 use ether_fields::Section;
 use serde_json::Value;
-use std::alloc::Global;
+use std::alloc::{AllocError, Global};
 
 /// A frame.
 #[derive(Drop, Debug)]
@@ -28,6 +29,32 @@ pub struct Frame {
     pub time: Time,
     /// Its bytes.
     pub bytes: Vec<u8>,
+}
+
+/// Pads a frame of Ethernet with zeros to 60 bytes, if that is asked for.
+pub fn padded(frame: Frame, pad: bool) -> Result<Frame, AllocError>
+    ensures { IfOk result (λ f. frame_view f ≡ padded_in pad (frame_view frame)) }
+{
+    if !pad || frame.link != 1 {
+        return Ok(frame);
+    }
+    let Frame { link, time, bytes } = frame;
+    Ok(Frame {
+        link,
+        time,
+        bytes: with_zeros(bytes)?,
+    })
+}
+
+/// Bytes with zeros after them, up to 60.
+fn with_zeros(bytes: Vec<u8>) -> Result<Vec<u8>, AllocError>
+    ensures { IfOk result (λ v. v.items ≡ bytes.items ++ zeros (60 - length bytes.items)) }
+{
+    let mut padded = bytes;
+    while padded.len() < 60 {
+        padded.push(0)?;
+    }
+    Ok(padded)
 }
 
 /// The frame that an object means. A refusal borrows the name of a member from the object.

@@ -29,7 +29,7 @@ const VERSION: &str = "ether_make 3.0.0";
 
 /// What `--help` prints.
 const HELP: &str = "\
-Usage: ether_make < LINES > CAPTURE
+Usage: ether_make [--pad] < LINES > CAPTURE
        ether_make --help | --version
 
 Makes frames. Each line of standard input is a JSON object with the headers of a
@@ -38,7 +38,8 @@ frame, as ether_capture --format json prints it, or shorter:
     {\"headers\":[{\"header\":\"eth\"},{\"header\":\"arp\",\"tpa\":\"10.0.0.2\"}]}
 
 A field that is missing has its usual value. The bytes after the headers are
-the hexadecimal digits of \"rest\":{\"bytes\":\"..\"}.
+the hexadecimal digits of \"rest\":{\"bytes\":\"..\"}. With --pad, a frame of
+Ethernet that has fewer than 60 bytes is padded with zeros.
 
 Exit status: 0, or 2 if the words are wrong, 3 if a line means no frame, 4 if
 standard input or output fails, 5 if there is no memory.
@@ -49,13 +50,17 @@ fn main(rt: HostRuntime) -> ExitCode {
     let Ok(args) = env::args(&rt) else {
         return ExitCode::from(4);
     };
-    if let Some(word) = args.skip(1).next() {
-        return about(rt, word.as_str());
+    let mut pad = false;
+    for word in args.skip(1) {
+        if word.as_str() != "--pad" {
+            return about(rt, word.as_str());
+        }
+        pad = true;
     }
     let Ok(mut writer) = BufWriter::new(rt.alloc(), rt.stdout()) else {
         return ExitCode::from(tell(rt, &RunFault::Line(Stop::MEMORY)));
     };
-    match program::run(rt.alloc(), &mut rt.reader(), &mut writer) {
+    match program::run(rt.alloc(), pad, &mut rt.reader(), &mut writer) {
         Ok(()) => ExitCode::from(0),
         Err(fault) => ExitCode::from(tell(rt, &fault)),
     }

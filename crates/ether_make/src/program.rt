@@ -1,10 +1,11 @@
 //! What a run of the program makes of its input.
 ghost use Rattle.std.specs.Prelude.{◌≡◌, None, IfOk, IfErr, OnErr, OnOk};
-ghost use Rattle.ether_make.specs.Captures.{IsBegun, IsTheCapture};
+ghost use Rattle.ether_make.specs.Captures.{IsPaddedBegun, IsPaddedCapture};
 ghost use Rattle.ether_make.specs.Messages.{fault_status};
 ghost use Rattle.ether_make.specs.Program.{AfterFault, AfterTaking, BreaksLine, HasMade, ReadsLine, TakesLine};
 
 use crate::capture::{write_end, write_frame};
+use crate::frame::padded;
 use crate::lines::{LineFault, Stop, line_frame};
 use std::alloc::Global;
 use std::io::{BufRead, Write};
@@ -25,16 +26,17 @@ pub enum RunFault {
 /// read. A line that means no frame ends the run; the capture has the frames of the lines before it.
 pub fn run<R: BufRead, W: Write>(
     alloc: Global,
+    pad: bool,
     reader: &mut R,
     writer: &mut W,
 ) -> Result<(), RunFault>
-    ensures made { OnOk result (HasMade IsTheCapture (R.remaining reader.old) (R.remaining reader.new)
+    ensures made { OnOk result (HasMade (IsPaddedCapture pad) (R.remaining reader.old) (R.remaining reader.new)
         (W.contents writer.old) (W.contents writer.new)) }
-    ensures fault { IfErr result (AfterFault IsTheCapture (R.remaining reader.old) (R.remaining reader.new)
+    ensures fault { IfErr result (AfterFault (IsPaddedCapture pad) (R.remaining reader.old) (R.remaining reader.new)
         (W.contents writer.old) (W.contents writer.new)) }
 {
     let mut link = None;
-    match make_lines(alloc, reader, writer, &mut link) {
+    match make_lines(alloc, pad, reader, writer, &mut link) {
         Err(RunFault::Output(error)) => Err(RunFault::Output(error)),
         ending => match write_end(writer, link) {
             Ok(()) => ending,
@@ -46,14 +48,15 @@ pub fn run<R: BufRead, W: Write>(
 /// Makes the frames of all lines, and writes them.
 fn make_lines<R: BufRead, W: Write>(
     alloc: Global,
+    pad: bool,
     reader: &mut R,
     writer: &mut W,
     link: &mut Option<u16>,
 ) -> Result<(), RunFault>
     requires { link.old ≡ None }
-    ensures made { OnOk result (HasMade (IsBegun link.new) (R.remaining reader.old) (R.remaining reader.new)
+    ensures made { OnOk result (HasMade (IsPaddedBegun pad link.new) (R.remaining reader.old) (R.remaining reader.new)
         (W.contents writer.old) (W.contents writer.new)) }
-    ensures fault { IfErr result (AfterFault (IsBegun link.new) (R.remaining reader.old) (R.remaining reader.new)
+    ensures fault { IfErr result (AfterFault (IsPaddedBegun pad link.new) (R.remaining reader.old) (R.remaining reader.new)
         (W.contents writer.old) (W.contents writer.new)) }
 {
     let mut line = Vec::new(alloc);
@@ -62,7 +65,7 @@ fn make_lines<R: BufRead, W: Write>(
             Ok(is_ended) => is_ended,
             Err(error) => return Err(RunFault::Input(error)),
         };
-        if let Err(fault) = take_line(alloc, number, &line, writer, link) {
+        if let Err(fault) = take_line(alloc, pad, number, &line, writer, link) {
             return Err(fault);
         }
         if !is_ended {
@@ -92,12 +95,13 @@ fn read_line<R: BufRead>(reader: &mut R, line: &mut Vec<u8>) -> io::Result<bool>
 /// Makes the frame of a line, and writes it. An empty line means nothing.
 fn take_line<W: Write>(
     alloc: Global,
+    pad: bool,
     number: usize,
     text: &[u8],
     writer: &mut W,
     link: &mut Option<u16>,
 ) -> Result<(), RunFault>
-    ensures taken { OnOk result (TakesLine text.now (W.contents writer.old) (W.contents writer.new) link.old link.new) }
+    ensures taken { OnOk result (TakesLine pad text.now (W.contents writer.old) (W.contents writer.new) link.old link.new) }
     ensures fault { IfErr result (AfterTaking number text.now (W.contents writer.old) (W.contents writer.new)
         link.old link.new) }
 {
@@ -112,6 +116,12 @@ fn take_line<W: Write>(
                 fault,
             }));
         }
+    };
+    let Ok(frame) = padded(frame, pad) else {
+        return Err(RunFault::Line(Stop {
+            line: number,
+            fault: LineFault::Memory,
+        }));
     };
     match write_frame(writer, link, &frame) {
         Ok(()) => Ok(()),

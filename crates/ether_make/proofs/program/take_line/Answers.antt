@@ -1,8 +1,8 @@
-use Rattle.std.proofs.Common.{ℕ, Option, eqb-true, subst, sym, refl}
+use Rattle.std.proofs.Common.{eqb-true, sym, refl}
 use Rattle.std.proofs.KnownBytes.{Appends-nil}
-use Rattle.ether_make.specs.Program.{TakesLine, empty, frame}
+use Rattle.ether_make.specs.Program.{empty}
 use Rattle.ether_make.specs.FrameViews.{frame_view}
-use Rattle.ether_make.proofs.LineLemmas.{line-fits}
+use Rattle.ether_make.proofs.ProgramLemmas.{line-taken}
 use Rattle.ether_make.proofs.TextLemmas.{not_empty}
 use Rattle.ether_make.proofs.program.take_line.Goals as goal
 
@@ -20,8 +20,6 @@ returns-in-Err-clause-fault g c = record {
 
 pub returns-in-Ok-write_frame-clause-taken : goal.returns-in-Ok-write_frame-clause-taken
 returns-in-Ok-write_frame-clause-taken g c =
-    let made = frame_view c.in-Ok.frame in
-    subst (λ (after : Option ℕ). TakesLine c.args.text.now (g.W.Write.contents c.args.writer.now)
-    (g.W.Write.contents c.write_frame.new.writer) c.args.link.now after) (sym c.in-Ok-write_frame.ensures.link)
-    (frame _ made (not_empty _ c.if-is_empty.ensures) c.in-Ok.ensures
-    (c.in-Ok-write_frame.ensures.grows (line-fits _ _ made c.in-Ok.ensures)))
+    line-taken c.args.pad c.args.text.now _ _ _ _ (frame_view c.in-Ok.frame) (frame_view c.in-Ok-padded.frame)
+    (not_empty _ c.if-is_empty.ensures) c.in-Ok.ensures c.in-Ok-padded.ensures c.in-Ok-write_frame.ensures.link
+    c.in-Ok-write_frame.ensures.grows
