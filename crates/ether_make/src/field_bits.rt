@@ -83,7 +83,7 @@ fn text_bits(
     if !is_as_long(&bytes, spelled) {
         return Ok(Err(Reason::OtherLength));
     }
-    let mut bits = Vec::new(alloc);
+    let mut bits = Vec::with_capacity(alloc, len)?;
     push_bytes(&mut bits, &bytes)?;
     push_bits(&mut bits, len.saturating_sub(spelled), 0)?;
     Ok(Ok(bits))
@@ -148,7 +148,7 @@ fn fits(number: u64, len: usize) -> bool
 fn bits_of_number(alloc: Global, len: usize, number: u64) -> Result<Vec<bool>, AllocError>
     ensures { IfOk result (λ v. v.items ≡ bits len number) }
 {
-    let mut bits = Vec::new(alloc);
+    let mut bits = Vec::with_capacity(alloc, len)?;
     push_bits(&mut bits, len, number)?;
     Ok(bits)
 }

@@ -101,7 +101,8 @@ fn take_line<W: Write>(
     writer: &mut W,
     link: &mut Option<u16>,
 ) -> Result<(), RunFault>
-    ensures taken { OnOk result (TakesLine pad text.now (W.contents writer.old) (W.contents writer.new) link.old link.new) }
+    ensures taken { OnOk result (TakesLine pad text.now (W.contents writer.old) (W.contents writer.new)
+        link.old link.new) }
     ensures fault { IfErr result (AfterTaking number text.now (W.contents writer.old) (W.contents writer.new)
         link.old link.new) }
 {

@@ -7,14 +7,14 @@ use Rattle.ether_make.proofs.program.make_lines.Goals as goal
 
 pub loop-number-init : goal.loop-number-init
 loop-number-init g c =
-    subst (λ (link : Option ℕ). Doing c.args.pad (g.R.Read.remaining c.args.reader.now) (g.R.Read.remaining c.args.reader.now)
-    (g.W.Write.contents c.args.writer.now) (g.W.Write.contents c.args.writer.now) 1 link) (sym c.requires)
+    subst (λ (link : Option ℕ). Doing c.args.pad (g.R.Read.remaining c.args.reader.now)
+    (g.R.Read.remaining c.args.reader.now) (g.W.Write.contents c.args.writer.now) (g.W.Write.contents c.args.writer.now) 1 link) (sym c.requires)
     (doing-begin c.args.pad _ _)
 
 pub loop-number-preserved : goal.loop-number-preserved
 loop-number-preserved g c =
-    doing-line c.args.pad _ _ _ _ _ _ c.loop-number.number c.read_line.new.line.items c.loop-number.link c.take_line.new.link
-    c.loop-number.invariant
+    doing-line c.args.pad _ _ _ _ _ _ c.loop-number.number c.read_line.new.line.items c.loop-number.link
+    c.take_line.new.link c.loop-number.invariant
     (subst (λ (b : Bool). ReadsLine (g.R.Read.remaining c.loop-number.reader)
     (g.R.Read.remaining c.read_line.new.reader) c.read_line.new.line.items b) c.if-not-is_ended.false
     c.in-Ok.ensures.line)
@@ -24,8 +24,8 @@ loop-number-preserved g c =
 
 pub returns-then-not-is_ended-clause-made : goal.returns-then-not-is_ended-clause-made
 returns-then-not-is_ended-clause-made g c =
-    doing-last c.args.pad _ _ _ _ _ _ c.loop-number.number c.read_line.new.line.items c.loop-number.link c.take_line.new.link
-    c.loop-number.invariant
+    doing-last c.args.pad _ _ _ _ _ _ c.loop-number.number c.read_line.new.line.items c.loop-number.link
+    c.take_line.new.link c.loop-number.invariant
     (subst (λ (b : Bool). ReadsLine (g.R.Read.remaining c.loop-number.reader)
     (g.R.Read.remaining c.read_line.new.reader) c.read_line.new.line.items b) c.if-not-is_ended.true
     c.in-Ok.ensures.line)
@@ -48,5 +48,5 @@ returns-in-Err-take_line-clause-fault g c =
 
 pub returns-clause-fault : goal.returns-clause-fault
 returns-clause-fault g c =
-    doing-broken c.args.pad _ _ _ _ _ _ c.loop-number.number c.loop-number.link [] c.loop-number.invariant (Consumes-nil _)
-    (All-nil (λ x. x ≢ 10)) (Appends-nil _)
+    doing-broken c.args.pad _ _ _ _ _ _ c.loop-number.number c.loop-number.link [] c.loop-number.invariant
+    (Consumes-nil _) (All-nil (λ x. x ≢ 10)) (Appends-nil _)
