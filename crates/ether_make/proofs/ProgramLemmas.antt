@@ -269,8 +269,8 @@ doing-fault pad before now after held mid holds number link linked line is_ended
 
 -- ---- the end
 
-ran-ends : (pad : Bool) (link : Option ℕ) (before after held mid holds : Option (List ℕ)) (stop : Option (ℕ × LineRefusal))
-    (part : List ℕ) → Ran (IsPaddedBegun pad link) before after held mid stop part → Ends link mid holds
+ran-ends : (pad : Bool) (link : Option ℕ) (before after held mid holds : Option (List ℕ))
+    (stop : Option (ℕ × LineRefusal)) (part : List ℕ) → Ran (IsPaddedBegun pad link) before after held mid stop part → Ends link mid holds
     → Ran (IsPaddedCapture pad) before after held holds stop part
 ran-ends pad link before after held mid holds stop part r e = record {
   text = r.text;
@@ -299,8 +299,8 @@ broken-ends pad link before after held mid holds b e = record {
   ran = ran-ends pad link before after held mid holds None b.part b.ran e;
 }
 
-line-ends : (pad : Bool) (link : Option ℕ) (before after held mid holds : Option (List ℕ)) (line : ℕ) (told : Option LineRefusal)
-    → AfterLine (IsPaddedBegun pad link) before after held mid line told → Ends link mid holds
+line-ends : (pad : Bool) (link : Option ℕ) (before after held mid holds : Option (List ℕ)) (line : ℕ)
+    (told : Option LineRefusal) → AfterLine (IsPaddedBegun pad link) before after held mid line told → Ends link mid holds
     → AfterLine (IsPaddedCapture pad) before after held holds line told
 line-ends pad link before after held mid holds line None h e = broken-ends pad link before after held mid holds h e
 line-ends pad link before after held mid holds line (Some r) h e =

@@ -7,9 +7,10 @@ use Rattle.ether_make.proofs.program.make_lines.Goals as goal
 
 pub loop-number-init : goal.loop-number-init
 loop-number-init g c =
-    subst (λ (link : Option ℕ). Doing c.args.pad (g.R.Read.remaining c.args.reader.now)
-    (g.R.Read.remaining c.args.reader.now) (g.W.Write.contents c.args.writer.now) (g.W.Write.contents c.args.writer.now) 1 link) (sym c.requires)
-    (doing-begin c.args.pad _ _)
+    let left = g.R.Read.remaining c.args.reader.now in
+    let held = g.W.Write.contents c.args.writer.now in
+    subst (λ (link : Option ℕ). Doing c.args.pad left left held held 1 link) (sym c.requires)
+    (doing-begin c.args.pad left held)
 
 pub loop-number-preserved : goal.loop-number-preserved
 loop-number-preserved g c =
