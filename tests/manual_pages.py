@@ -1,4 +1,4 @@
-"""Tests the manual pages: groff, if it is there, has no warning; that of ether_tool has each word of its usage, and ether-filter(7) each
+"""Tests the manual pages: groff, if it is there, has no warning; those of ether_tool and ether_make have each word of their usage, and ether-filter(7) each
 primitive of docs/FORMAT.md. tests/options.py tests that of ether_capture. The last line is 'N passed, M failed'."""
 import argparse
 import glob
@@ -50,6 +50,8 @@ def main():
     check_form()
     for word in ("eth", "fcs", "sll", "type XXXX", "feed", "limit N"):
         check("ether_tool(1)", word in page("man/ether_tool.1"), f"{word} is missing")
+    for word in re.findall(r"--\w+", text("crates/ether_make/src/main.rt")):
+        check("ether_make(1)", word in page("man/ether_make.1"), f"{word} is missing")
     table = text("docs/FORMAT.md").partition("Primitive | True of a packet\n---|---\n")[2].partition("\n\n")[0]
     for primitive in re.findall(r"`([^`]*)`", " ".join(row.partition(" | ")[0] for row in table.split("\n"))):
         check("ether-filter(7)", primitive in page("man/ether-filter.7"), f"{primitive} is missing")

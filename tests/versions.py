@@ -25,6 +25,7 @@ PLACES = {
     "c/etherpeel.3": r'"etherpeel (\d+)\.(\d+)"',
     "man/ether_tool.1": r'"etherpeel (\d+)\.(\d+)"',
     "man/ether_capture.1": r'"etherpeel (\d+)\.(\d+)"',
+    "man/ether_make.1": r'"etherpeel (\d+)\.(\d+)"',
     "man/ether-filter.7": r'"etherpeel (\d+)\.(\d+)"',
     "c/etherpeel.pc.in": r"^Version: (.*)",
     "c/etherpeel-config-version.cmake": r"PACKAGE_VERSION (\d.*)\)",

@@ -88,7 +88,8 @@ grown pad link after f frames bytes more h =
     subst (λ (fs : List FrameValue). IsBegun after fs (bytes ++ more)) (sym (map-append (padded pad) frames (f ∷ []))) h
 
 -- what is written of a frame of a line, which is padded
-pub line-taken : (pad : Bool) (text : List ℕ) (held holds : Option (List ℕ)) (link after : Option ℕ) (f made : FrameValue) → 0 < length text
+pub line-taken : (pad : Bool) (text : List ℕ) (held holds : Option (List ℕ)) (link after : Option ℕ)
+    (f made : FrameValue) → 0 < length text
     → LineMeans link text (Ok f) → made ≡ padded pad f → after ≡ linked link made
     → (length made.packet ≤ max_captured_len → Grows link (linked link made) made held holds)
     → TakesLine pad text held holds link after
@@ -222,7 +223,8 @@ refused_lines : (line : List ℕ) (is_ended : Bool) → All (λ c. c ≢ 10) lin
 refused_lines line true h = (lines_in [], lines-ended line [] h)
 refused_lines line false h = ([], ap lines_in (append-nil line) ∙ lines-last line h)
 
-after_line : (pad : Bool) (before now after held mid holds : Option (List ℕ)) (number : ℕ) (link : Option ℕ) (line : List ℕ)
+after_line : (pad : Bool) (before now after held mid holds : Option (List ℕ)) (number : ℕ) (link : Option ℕ)
+    (line : List ℕ)
     (is_ended : Bool) (told : Option LineRefusal) → Doing pad before now held mid number link
     → ReadsLine now after line is_ended → 0 < length line → IfTold (λ r. LineMeans link line (Err r)) told
     → Appends mid holds [] → AfterLine (IsPaddedBegun pad link) before after held holds number told
@@ -242,24 +244,28 @@ after_line pad before now after held mid holds number link line is_ended (Some t
           d.means (line ++ line_end is_ended) [] (Some (number, told))
           (subst (λ (ls : List (List ℕ)). LinesMean number link ls [] (Some (number, told))) (sym lines.1)
           (meant.refused number link line lines.0 told some means));
-      is_written = subst (λ (fs : List FrameValue). IsPaddedBegun pad link fs d.bytes) (sym (append-nil d.frames)) d.begun;
+      is_written =
+          subst (λ (fs : List FrameValue). IsPaddedBegun pad link fs d.bytes) (sym (append-nil d.frames)) d.begun;
       written = same_written held mid holds d.bytes d.written a;
     }
 
-pub doing-refused : (pad : Bool) (before now after held mid holds : Option (List ℕ)) (number : ℕ) (link linked : Option ℕ)
-    (line : List ℕ) (is_ended : Bool) (stop : Stop) → Doing pad before now held mid number link
+pub doing-refused : (pad : Bool) (before now after held mid holds : Option (List ℕ)) (number : ℕ)
+    (link linked : Option ℕ) (line : List ℕ) (is_ended : Bool) (stop : Stop)
+    → Doing pad before now held mid number link
     → ReadsLine now after line is_ended → RefusesLine number line mid holds link linked stop
     → AfterLine (IsPaddedBegun pad linked) before after held holds stop.line (fault_view stop.fault)
 doing-refused pad before now after held mid holds number link linked line is_ended stop d r f =
-    subst (λ (n : ℕ). AfterLine (IsPaddedBegun pad linked) before after held holds n (fault_view stop.fault)) (sym f.line)
+    subst (λ (n : ℕ). AfterLine (IsPaddedBegun pad linked) before after held holds n (fault_view stop.fault))
+    (sym f.line)
     (subst (λ (l : Option ℕ). AfterLine (IsPaddedBegun pad l) before after held holds number (fault_view stop.fault))
     (sym f.same_link)
     (after_line pad before now after held mid holds number link line is_ended (fault_view stop.fault) d r f.some f.means
     f.unwritten))
 
 -- .. in a run, by the fault of the line
-pub doing-fault : (pad : Bool) (before now after held mid holds : Option (List ℕ)) (number : ℕ) (link linked : Option ℕ)
-    (line : List ℕ) (is_ended : Bool) (fault : RunFault) → Doing pad before now held mid number link
+pub doing-fault : (pad : Bool) (before now after held mid holds : Option (List ℕ)) (number : ℕ)
+    (link linked : Option ℕ) (line : List ℕ) (is_ended : Bool) (fault : RunFault)
+    → Doing pad before now held mid number link
     → ReadsLine now after line is_ended → AfterTaking number line mid holds link linked fault
     → AfterFault (IsPaddedBegun pad linked) before after held holds fault
 doing-fault pad before now after held mid holds number link linked line is_ended (runs.Line stop) d r f =
@@ -270,7 +276,8 @@ doing-fault pad before now after held mid holds number link linked line is_ended
 -- ---- the end
 
 ran-ends : (pad : Bool) (link : Option ℕ) (before after held mid holds : Option (List ℕ))
-    (stop : Option (ℕ × LineRefusal)) (part : List ℕ) → Ran (IsPaddedBegun pad link) before after held mid stop part → Ends link mid holds
+    (stop : Option (ℕ × LineRefusal)) (part : List ℕ)
+    → Ran (IsPaddedBegun pad link) before after held mid stop part → Ends link mid holds
     → Ran (IsPaddedCapture pad) before after held holds stop part
 ran-ends pad link before after held mid holds stop part r e = record {
   text = r.text;
@@ -300,7 +307,8 @@ broken-ends pad link before after held mid holds b e = record {
 }
 
 line-ends : (pad : Bool) (link : Option ℕ) (before after held mid holds : Option (List ℕ)) (line : ℕ)
-    (told : Option LineRefusal) → AfterLine (IsPaddedBegun pad link) before after held mid line told → Ends link mid holds
+    (told : Option LineRefusal) → AfterLine (IsPaddedBegun pad link) before after held mid line told
+    → Ends link mid holds
     → AfterLine (IsPaddedCapture pad) before after held holds line told
 line-ends pad link before after held mid holds line None h e = broken-ends pad link before after held mid holds h e
 line-ends pad link before after held mid holds line (Some r) h e =
