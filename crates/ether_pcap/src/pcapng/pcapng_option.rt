@@ -77,7 +77,22 @@ pub(crate) fn bytes_from(bytes: &[u8], place: usize) -> &[u8]
 }
 
 /// The value of the first option with this code.
+///
+/// Most packets have no options, so the number of bytes is tested first.
+#[inline(always)]
 pub(crate) fn option_value(byte_order: ByteOrder, options: &[u8], code: u16) -> Option<&[u8]>
+    ensures { (all : List OptionValue) → HasOptions (order_of byte_order) options.now all
+        → MatchOption result (value_of code all ≡ None) (λ value. value_of code all ≡ Some value.now) }
+{
+    if options.len() < 4 {
+        return None;
+    }
+    searched_value(byte_order, options, code)
+}
+
+/// [`option_value`], searched from the first option on.
+#[inline(never)]
+fn searched_value(byte_order: ByteOrder, options: &[u8], code: u16) -> Option<&[u8]>
     ensures { (all : List OptionValue) → HasOptions (order_of byte_order) options.now all
         → MatchOption result (value_of code all ≡ None) (λ value. value_of code all ≡ Some value.now) }
 {

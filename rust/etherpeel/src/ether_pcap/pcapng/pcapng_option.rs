@@ -78,8 +78,19 @@ pub(in crate::ether_pcap) fn bytes_from(bytes: &[u8], place: usize) -> &[u8] {
 }
 
 /// The value of the first option with this code.
-#[inline]
+///
+/// Most packets have no options, so the number of bytes is tested first.
+#[inline(always)]
 pub(in crate::ether_pcap) fn option_value(byte_order: ByteOrder, options: &[u8], code: u16) -> Option<&[u8]> {
+    if options.len() < 4 {
+        return None;
+    }
+    searched_value(byte_order, options, code)
+}
+
+/// [`option_value`], searched from the first option on.
+#[inline(never)]
+fn searched_value(byte_order: ByteOrder, options: &[u8], code: u16) -> Option<&[u8]> {
     let mut rest = options;
     while let Some(option) = PcapngOption::first(byte_order, rest) {
         if option.code == code {
