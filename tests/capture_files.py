@@ -1,6 +1,7 @@
 """Tests of `ether_capture` over several files."""
 
 import gzip
+import json
 import os
 import subprocess
 import tempfile
@@ -32,6 +33,8 @@ def totals(frames, skipped, end=""):
 # Several files: those that are there, and the words, the lines, the status of each run over some of them, and what is said on standard error.
 FILES = {"one.pcap": CLASSIC, "two.pcapng": SECTIONS, "fcs.pcap": WITH_FCS, "cut.pcap": CLASSIC[:120], "none.pcap": CLASSIC[:24], "empty": b"",
          "packed.gz": gzip.compress(CLASSIC, mtime=0), "six.pcap": classic(*SIX), "v2.pcap": TAGGED_V2}
+ODD_NAME = 'a "b",\tc\\d \u00e9.pcap'
+FILES[ODD_NAME] = WITH_FCS
 CUT_FAULT = "cut.pcap" + record_is_cut(59, 62, 61)
 EMPTY_FAULT = "empty: byte 0: The header of a pcap file needs 24 byte(s); only 0 are available.\n"
 ONE_TWO = part(CLASSIC_LINES, 0) + part(SECTION_LINES, 2)
@@ -65,6 +68,13 @@ SEVERAL_FILES = [
     ("standard input among others", ["none.pcap", "-", "two.pcapng"], ONE_TWO + totals(6, 1), 1),
     ("packets before standard input", ["-c", "2", "fcs.pcap", "-"], FCS_LINES, 0),
     ("standard input and the rows of columns", ["--fields", "frame.number,vlan.vid", "none.pcap", "-"], "1\t1\n2\t291\n", 1),
+    ("the names of files", ["--fields", "frame.file,frame.number", "one.pcap", "-", "./fcs.pcap"],
+     "one.pcap\t1\none.pcap\t2\n\t3\n\t4\n./fcs.pcap\t5\n./fcs.pcap\t6\n", 1),
+    ("the name of one file", ["--fields", "frame.file", "-r", "fcs.pcap"], "fcs.pcap\nfcs.pcap\n", 0),
+    ("counts of files", ["--stats", "--by", "frame.file", "fcs.pcap", "one.pcap", "fcs.pcap"],
+     "frame.file\tfcs.pcap\t4\t80\nframe.file\tone.pcap\t2\t106\ntotal\t\t6\t186\n", 1),
+    ("a name in rows", ["--fields", "frame.file", "-c", "1", ODD_NAME], 'a "b",\\tc\\\\d \u00e9.pcap\n', 0),
+    ("a name in CSV", ["--format", "csv", "--fields", "frame.file", "-c", "1", ODD_NAME], '"a ""b"",\tc\\d \u00e9.pcap"\r\n', 0),
     ("a limit", ["--limit", "0", "--plain", "--select", "outer vlan 100", "six.pcap", "six.pcap"], 2 * (plain(DOUBLE) + "rest 14 23 type 0x88A8\n"), 0),
     ("a limit after a header of cooked capture v2", ["--plain", "--limit", "0", "none.pcap", "v2.pcap"], V2_LINE + "rest 20 25 type 0x8100\n", 0),
 ]
@@ -72,6 +82,11 @@ SEVERAL_FILES = [
 PACKED = ["packed.gz", "fcs.pcap"]
 UNPACKED = part(CLASSIC_LINES, 0) + part(FCS_LINES, 2) + totals(4, 0), "", 1
 NOT_UNPACKED = FCS_LINES, "packed.gz: byte 0: The magic number 0x1F8B0800 is not that of a pcap file. This looks like gzip: zcat unpacks it.\n", 3
+
+
+def names(program, files):
+    """The name of each packet's file, as JSON has it."""
+    return [json.loads(it)["file"] for it in run_apart(program, ["--format", "json", *files], CLASSIC)[0].splitlines()]
 
 
 def several(program, unpacks):
@@ -88,6 +103,7 @@ def several(program, unpacks):
             for name, words, text, status, *said in SEVERAL_FILES:
                 yield f"several files: {name}", partial(run_apart, program, words, CLASSIC), (text, "".join(said), status)
             yield "several files: a packed capture", partial(run_apart, program, PACKED, CLASSIC), UNPACKED if unpacks else NOT_UNPACKED
+            yield "several files: names as JSON", partial(names, program, [ODD_NAME, "-", "one.pcap"]), [ODD_NAME] * 2 + [None] * 2 + ["one.pcap"] * 2
             found = partial(run_apart, program, ["--plain", "one.pcap", "-"], CLASSIC[:120])
             wanted = plain(CLASSIC_LINES) + plain(FIRST_LINES), INPUT + record_is_cut(59, 62, 61), 3
             yield "several files, a fault of standard input", found, wanted

@@ -23,7 +23,7 @@ BROADCAST, STATION = "ff:ff:ff:ff:ff:ff", "3a:ee:b6:2f:f6:d7"
 
 def packet(number, time, link, captured, original, headers, interface=None, direction=None, comment=None, **end):
     return {"number": number, "time": time, "link": link, "captured": captured, "original": original, "interface": interface, "direction": direction,
-            "comment": comment, "headers": headers, **end}
+            "comment": comment, "file": None, "headers": headers, **end}
 
 
 def placed(name, start, end, payload_end, closed=False, **members):
@@ -197,7 +197,7 @@ BRIEF_ENDS = [
 # The example of `write_packet`: 14 of 60 bytes, captured a microsecond after a full second.
 DOCUMENTED = joined("a1b23c4d 0002 0004 00000000 00000000 00040000 00000001", "6553f100 000003e8 0000000e 0000003c", "ffffffffffff 020000000001 0800")
 DOCUMENTED_LINE = (
-    '{"number":1,"time":"2023-11-14T22:13:20.000001000Z","link":1,"captured":14,"original":60,"interface":null,"direction":null,"comment":null,"headers":[{"header":"eth",'
+    '{"number":1,"time":"2023-11-14T22:13:20.000001000Z","link":1,"captured":14,"original":60,"interface":null,"direction":null,"comment":null,"file":null,"headers":[{"header":"eth",'
     '"start":0,"end":14,"payload_end":14,"closed":false,"dst":"ff:ff:ff:ff:ff:ff","src":"02:00:00:00:00:01","type":2048,'
     '"fcs":null}],"rest":{"start":14,"end":14,"kind":"ether_type","type":2048}}\n')
 
@@ -274,7 +274,7 @@ PROTOCOLS = {"type", "pro", "protocol"}  # columns in which a number is spelled 
 
 def columns_of(packet):
     """All columns of a packet, by hand from its members: each section with its members' values, and commas between those of several headers."""
-    sections = [("frame", {it: packet[it] for it in ("number", "time", "link", "captured", "original", "interface", "direction", "comment")})]
+    sections = [("frame", {it: packet[it] for it in ("number", "time", "link", "captured", "original", "interface", "direction", "comment", "file")})]
     time = packet["time"]
     sections.append(("frame", dict(zip(("minute", "hour", "day"), (time[:16] + "Z", time[:13] + "Z", time[:10]) if time else [None] * 3))))
     for it in packet["headers"]:
@@ -383,7 +383,7 @@ def examples(program):
         it + b",%d\r\n" % number for number, it in enumerate([*(it[3] for it in COMMENTS), b""], 1))
     yield "control characters as JSON", partial(raw_bytes, program, JSON, SECTION_HEADER + ETHERNET + optioned([(1, b"\t\"\\")])), (
         b'{"number":1,"time":"1970-01-01T00:00:00.000001000Z","link":1,"captured":14,"original":14,"interface":0,"direction":null,'
-        b'"comment":"\\u0009\\"\\\\","headers":[{"header":"eth","start":0,"end":14,"payload_end":14,"closed":false,"dst":"02:00:00:00:00:01",'
+        b'"comment":"\\u0009\\"\\\\","file":null,"headers":[{"header":"eth","start":0,"end":14,"payload_end":14,"closed":false,"dst":"02:00:00:00:00:01",'
         b'"src":"02:00:00:00:00:02","type":34997,"fcs":null}],"rest":{"start":14,"end":14,"kind":"ether_type","type":34997}}\n')
     for name, number in (("", 6), (" of obsolete packet blocks", 2)):
         yield f"directions as JSON{name}", partial(members, program, JSON, with_directions(number), "direction"), [*(it for _, it in DIRECTIONS), None]
@@ -529,6 +529,26 @@ def interfaces(program):
         ours, theirs = (subprocess.run([*words, file.name], capture_output=True, text=True, check=False).stdout.splitlines()
                         for words in ([program, "--fields", "frame.interface"], ["tshark", "-n", "-T", "fields", "-e", "frame.interface_id", "-r"]))
     return [("interfaces", ours, wanted), ("interfaces by tshark", theirs, wanted)]
+
+
+# the recipe that adds the names of interfaces to columns
+NAMED = r"""capinfos "$1" | sed -n 's/^Interface #\([0-9]*\) info:/\1/p;s/^ *Name = //p' | paste - - | sort > "$2"
+"$0" --fields frame.interface,frame.number "$1" | sort -k 1,1 | join -t "$(printf '\t')" "$2" -"""
+
+
+def interface_names(program):
+    """The names that the recipe finds of the interfaces of 50 drawn packets are those of tshark."""
+    draw = random.Random(3)
+    named = [block(1, "0100 0000 00000000", f"0200 {len(it):02x}00", it.hex(), "00" * (-len(it) % 4), "00000000") for it in (b"eth0", b"uplink 1", b"\xc3\xa9")]
+    packets = [block(6, f"0{draw.randrange(3)}000000", "00000000 00000000", "0e000000 0e000000", "020000000001 020000000002 88b5 0000") for _ in range(50)]
+    with tempfile.NamedTemporaryFile(suffix=".pcapng") as file, tempfile.NamedTemporaryFile() as names:
+        file.write(b"".join([SECTION_HEADER, *named, *packets]))
+        file.flush()
+        ours = subprocess.run(["bash", "-c", NAMED, program, file.name, names.name], capture_output=True, text=True, check=False).stdout
+        theirs = subprocess.run(["tshark", "-n", "-r", file.name, "-T", "fields", "-e", "frame.interface_id", "-e", "frame.interface_name", "-e", "frame.number"],
+                                capture_output=True, text=True, check=False).stdout
+    return [("names of interfaces by capinfos and join", sorted(ours.splitlines()), sorted(theirs.splitlines())),
+            ("packets with such a name", len(ours.splitlines()), 50)]
 
 
 def flags_and_comments(program):

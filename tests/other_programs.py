@@ -20,7 +20,7 @@ from shutil import which
 from made_captures import TAGGED_V1, block, classic, cooked, joined
 from counts import counted_by_tshark
 from display_filters import agreement
-from formats import flags_and_comments, interfaces, llc_lengths, readers
+from formats import flags_and_comments, interface_names, interfaces, llc_lengths, readers
 from programs import count
 
 PUSH = ["--write", "--push-vlan", "0x8100:5"]
@@ -179,7 +179,8 @@ def main():
     program = os.path.realpath(words.parse_args().program)
     tried = []
     for needed, tests in (("tcpdump", snap_lengths), ("tcpdump", several_interfaces), ("tshark", sections), ("tshark", cooked_headers),
-                          ("tshark", readers), ("tshark", interfaces), ("tshark", flags_and_comments), ("tcpdump", llc_lengths), ("tshark", counted_by_tshark), ("tshark", agreement), ("dumpcap", live)):
+                          ("tshark", readers), ("tshark", interfaces), ("capinfos", interface_names), ("tshark", flags_and_comments), ("tcpdump", llc_lengths),
+                          ("tshark", counted_by_tshark), ("tshark", agreement), ("dumpcap", live)):
         missing = [it for it in {needed, "tcpdump"} if not which(it)]
         if missing:
             print(f"left out: {tests.__name__.replace('_', ' ')}, since there is no {' and no '.join(missing)}")

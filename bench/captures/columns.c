@@ -240,7 +240,7 @@ static void json(uint32_t count, const struct pcap_pkthdr *header, const u_char 
   number(len);
   TEXT(",\"original\":");
   number(header->len);
-  TEXT(",\"interface\":null,\"direction\":null,\"comment\":null,\"headers\":[{\"header\":\"eth\",\"start\":");
+  TEXT(",\"interface\":null,\"direction\":null,\"comment\":null,\"file\":null,\"headers\":[{\"header\":\"eth\",\"start\":");
   place(0, 14, len);
   TEXT(",\"closed\":false,\"dst\":\"");
   mac(bytes);

@@ -671,7 +671,7 @@ static void packets_on_one_line(void) {
     CHECK(has_line("json", &p,
                    "{\"number\":7,\"time\":\"2023-11-14T22:13:20.000001000Z\",\"link\":1,"
                    "\"captured\":19,\"original\":64,\"interface\":null,\"direction\":null,"
-                   "\"comment\":null,\"headers\":[{"
+                   "\"comment\":null,\"file\":null,\"headers\":[{"
                    "\"header\":\"eth\",\"start\":0,"
                    "\"end\":14,\"payload_end\":19,\"closed\":false,\"dst\":\"ff:ff:ff:ff:ff:ff\","
                    "\"src\":\"02:00:00:00:00:01\",\"type\":33024,\"fcs\":null},{\"header\":\"vlan\","

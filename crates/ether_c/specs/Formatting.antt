@@ -1,5 +1,5 @@
 -- What the calls for packets on one line do.
-use Rattle.std.specs.Prelude.{◌≡◌, ℕ, ◌<◌, ◌≤◌, List, length, Bool, Option, IfNone, IfSome}
+use Rattle.std.specs.Prelude.{◌≡◌, ℕ, ◌<◌, ◌≤◌, List, length, Bool, Option, None, IfNone, IfSome}
 use Rattle.ether_pcap.specs.Capture.{PacketValue}
 use Rattle.ether_output.specs.OutputBuffer.{room}
 use Rattle.ether_format.specs.declared.format.Format.{Format}
@@ -19,7 +19,7 @@ pub record PutsLine (format : Format) (limit : Option ℕ) (number : ℕ) (p : P
     (status len : ℕ) : Type 0 where
   pub line : List ℕ
   pub accepted : Bool
-  pub is_line : HasText format limit number p line accepted
+  pub is_line : HasText format limit (record { file = None; number = number }) p line accepted
   pub put : length line ≤ room → PutsBytes line old new status len
   pub kept : room < length line → (status ≡ no_text) × (len ≡ 0) × (new ≡ old)
 

@@ -7,7 +7,7 @@ use crate::EtherCaptured;
 use crate::no_writer::NoWriter;
 use crate::putting::put_bytes;
 use crate::statuses::{BAD_FORMAT, NO_TEXT};
-use ether_format::{Format, write_packet};
+use ether_format::{Format, Origin, write_packet};
 use ether_output::OutputBuffer;
 
 /// Writes the line of a packet in a format: a line of JSON, one for the eye, or a row of columns.
@@ -61,7 +61,8 @@ fn put_line(
 {
     let mut writer = NoWriter;
     let mut line = OutputBuffer::new(&mut writer);
-    let _is_accepted = write_packet(format, limit, number, &packet.to_packet(), &mut line);
+    let origin = Origin { file: None, number };
+    let _is_accepted = write_packet(format, limit, &origin, &packet.to_packet(), &mut line);
     match line.check() {
         Ok(()) => put_bytes(line.waiting(), target),
         Err(_) => (NO_TEXT, 0),

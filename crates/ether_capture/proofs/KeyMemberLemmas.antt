@@ -7,7 +7,8 @@ use Rattle.ether_output.specs.declared.output_buffer.OutputBuffer.{OutputBuffer}
 use Rattle.ether_capture.specs.RowFields.{last_piece, pieces, row_fields}
 use Rattle.std.proofs.lemmas.List.{length-drop, take_all}
 use Rattle.ether_format.specs.Spelling.{json_text}
-use Rattle.ether_capture.specs.KeyMembers.{comma_if, texts_on}
+use Rattle.ether_format.specs.Values.{comma_if}
+use Rattle.ether_capture.specs.KeyMembers.{texts_on}
 use Rattle.ether_capture.specs.Statistics.{json_texts, key_members}
 use Rattle.ether_output.proofs.OutputBufferLemmas.{Takes-then, Takes-same}
 

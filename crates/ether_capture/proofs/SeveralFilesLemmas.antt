@@ -52,30 +52,31 @@ file_names word names is = not_input (bytes_eq word (codes "-")) word (names_inp
 
 module _ (r : Reading) where
   -- lines edit no packet
-  no_edit : (l : ListingValue) (at : Tally) (packets : List PacketValue) (before after held holds : Option (List ℕ))
-      (offset : ℕ)
-      → HasRunOver (next_task l at) packets before after held holds (Err (faults.NotEdited offset))
+  no_edit : (l : ListingValue) (at : Tally) (word : List ℕ) (packets : List PacketValue)
+      (before after held holds : Option (List ℕ)) (offset : ℕ)
+      → HasRunOver (next_task l at word) packets before after held holds (Err (faults.NotEdited offset))
       ⊎ ((packets ≡ []) × HasNoMemory before after held holds (Err (faults.NotEdited offset))) → ⊥
-  no_edit l at packets before after held holds offset (inl run) = run.stops
-  no_edit l at packets before after held holds offset (inr (none, no_memory)) = let e = no_memory.0 in absurd cc
+  no_edit l at word packets before after held holds offset (inl run) = run.stops
+  no_edit l at word packets before after held holds offset (inr (none, no_memory)) = let e = no_memory.0 in absurd cc
 
   -- how many packets were read is known of each end but that of a failed output
-  counts_known : (l : ListingValue) (at : Tally) (name : Option (List ℕ)) (packets : List PacketValue)
-      (before after : Streams) (end : FileEnd) {P : Type 0}
-      → HasEnded r (next_task l at) name packets before after end
+  counts_known : (l : ListingValue) (at : Tally) (word : List ℕ) (name : Option (List ℕ))
+      (packets : List PacketValue) (before after : Streams) (end : FileEnd) {P : Type 0}
+      → HasEnded r (next_task l at word) name packets before after end
       → IfFileRead end P → end ≢ ends.Read (Err faults.Output) → P
-  counts_known l at name packets before after (ends.NotOpened fault) ended known going = known
-  counts_known l at name packets before after (ends.Read (Ok verdict)) ended known going = known
-  counts_known l at name packets before after (ends.Read (Err (faults.Capture fault))) ended known going = known
-  counts_known l at (Some name) packets before after (ends.Read (Err (faults.NotEdited offset)))
+  counts_known l at word name packets before after (ends.NotOpened fault) ended known going = known
+  counts_known l at word name packets before after (ends.Read (Ok verdict)) ended known going = known
+  counts_known l at word name packets before after (ends.Read (Err (faults.Capture fault))) ended known going = known
+  counts_known l at word (Some name) packets before after (ends.Read (Err (faults.NotEdited offset)))
       (same, (first, last, is, (run, failed))) known going =
-      absurd (no_edit l at packets first last before.output after.output offset run)
-  counts_known l at None packets before after (ends.Read (Err (faults.NotEdited offset)))
+      absurd (no_edit l at word packets first last before.output after.output offset run)
+  counts_known l at word None packets before after (ends.Read (Err (faults.NotEdited offset)))
       (same, (run, failed)) known going =
-      absurd (no_edit l at packets before.input after.input before.output after.output offset run)
-  counts_known l at name packets before after (ends.Read (Err faults.Input)) ended known going = known
-  counts_known l at name packets before after (ends.Read (Err faults.Output)) ended known going = absurd (going refl)
-  counts_known l at name packets before after (ends.Read (Err faults.Memory)) ended known going = known
+      absurd (no_edit l at word packets before.input after.input before.output after.output offset run)
+  counts_known l at word name packets before after (ends.Read (Err faults.Input)) ended known going = known
+  counts_known l at word name packets before after (ends.Read (Err faults.Output)) ended known going =
+      absurd (going refl)
+  counts_known l at word name packets before after (ends.Read (Err faults.Memory)) ended known going = known
 
   -- a failed output is a fault of the writer
   pub output_failed : (task : TaskValue) (name : Option (List ℕ)) (packets : List PacketValue)
@@ -99,7 +100,7 @@ module _ (r : Reading) where
   -- a capture was read, and why it was not read to its end is told
   pub file_read : (can_tell : Type 0) (l : ListingValue) (task : TaskValue) (name : List ℕ) (at next : Tally)
       (before mid after : Streams) (packets : List PacketValue) (end : FileEnd) (counts : PacketCounts)
-      → task ≡ next_task l at
+      → task ≡ next_task l at name
       → HasEnded r task (named name) packets before mid end
       → IfFileRead end (AreCounted task packets counts) → end ≢ ends.Read (Err faults.Output)
       → Tells can_tell (text_of_capture (named name) end) mid.messages after.messages
@@ -113,7 +114,7 @@ module _ (r : Reading) where
       let ended_so =
       subst (λ (t : TaskValue). HasEnded r t (named name) packets before mid end) same ended in
       let known_so = subst (λ (t : TaskValue). IfFileRead end (AreCounted t packets counts)) same known in
-      let are = counts_known l at (named name) packets before mid end ended_so known_so going in
+      let are = counts_known l at name (named name) packets before mid end ended_so known_so going in
       record {
         packets = packets;
         end = end;

@@ -1,11 +1,7 @@
 -- Strings that are written one after the other: for the contracts of private functions.
-use Rattle.std.specs.Prelude.{ℕ, List, [], ◌∷◌, ◌++◌, codes, Bool, true, false}
+use Rattle.std.specs.Prelude.{ℕ, List, [], ◌∷◌, ◌++◌, Bool, false}
 use Rattle.ether_format.specs.Spelling.{json_text}
-
--- what comes before a string of an array
-abbrev pub comma_if : (is_first : Bool) → List ℕ
-comma_if true = []
-comma_if false = codes ","
+use Rattle.ether_format.specs.Values.{comma_if}
 
 -- strings, and a comma before the first if others precede
 abbrev pub texts_on : (is_first : Bool) → List (List ℕ) → List ℕ

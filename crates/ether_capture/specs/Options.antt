@@ -30,7 +30,7 @@ use Rattle.ether_stream.specs.declared.usage.DependentOption.TheVariants as depe
 use Rattle.ether_stream.specs.declared.usage.Usage.{Usage}
 use Rattle.ether_stream.specs.declared.usage.Usage.TheVariants as usages
 use Rattle.ether_stream.specs.declared.usage.ValueOption.TheVariants as value_options
-use Rattle.ether_stream.specs.Task.{TaskValue, FormValue, Lines, Copy, task_view}
+use Rattle.ether_stream.specs.Task.{Copy, FormValue, Lines, LinesValue, TaskValue, lines_view, task_view}
 use Rattle.ether_capture.specs.OptionTable.{all_options, is_added, option_rule}
 use Rattle.ether_capture.specs.WrongWords.{IsUsageOf}
 use Rattle.ether_capture.specs.declared.request.Asked.{Asked}
@@ -40,7 +40,6 @@ use Rattle.ether_capture.specs.declared.statistics_format.Counting.{Counting}
 use Rattle.ether_capture.specs.declared.statistics_format.StatisticsFormat.{StatisticsFormat}
 use Rattle.ether_capture.specs.declared.statistics_format.StatisticsFormat.TheVariants as counts
 use Rattle.ether_capture.specs.declared.request.Listing.{Listing}
-use Rattle.ether_stream.specs.declared.task.LineOptions.{LineOptions}
 use Rattle.ether_capture.specs.declared.request.RequestError.{RequestError}
 use Rattle.ether_capture.specs.declared.request.RequestError.TheVariants as reasons
 use Rattle.ether_capture.specs.declared.request.Request.{Request}
@@ -50,7 +49,7 @@ use Rattle.ether_capture.specs.declared.request.Request.TheVariants as requests
 pub record ListingValue : Type 0 where
   pub select : Option Selection
   pub count : Option ℕ
-  pub options : LineOptions
+  pub options : LinesValue
   pub heading : Heading
   pub files : List Text
 
@@ -58,7 +57,7 @@ abbrev pub listing_view : Listing → ListingValue
 listing_view l = record {
   select = l.selection;
   count = option_map non_zero_usize_get l.count;
-  options = l.options;
+  options = lines_view l.options;
   heading = l.heading;
   files = map (λ s. s.now) l.files.items;
 }
@@ -356,9 +355,20 @@ abbrev pub excuses : (status_on_fault : Option Bool) → Bool
 excuses (Some false) = true
 excuses answer = false
 
+-- the name of the only file, if one is named, by `-r` or without it
+abbrev pub only_name : (read : Option Text) → (files : List Text) → Option Text
+only_name (Some name) files = Some name
+only_name None [] = None
+only_name None (name ∷ names) = Some name
+
+-- .. unless standard input is read: without a name, too
+abbrev pub input_of : AskedValue → Option Text
+input_of a = option_and_then named (only_name a.input a.files)
+
 -- which lines are asked for; those of another format have no totals
-abbrev pub options_of : AskedValue → LineOptions
+abbrev pub options_of : AskedValue → LinesValue
 options_of a = record {
+  file = input_of a;
   is_plain = a.plain || is_some (format_asked a);
   format = format_asked a;
   limit = a.limit;
@@ -378,16 +388,6 @@ form_of a = if makes_copy a then Copy (mode_of a) a.edit else Lines (options_of 
 -- which packets are selected by an expression, if there is one
 abbrev pub selection_of : AskedValue → Option Expression → Option Selection
 selection_of a = option_map (λ x. record { filter = x; undecided = a.undecided })
-
--- the name of the only file, if one is named, by `-r` or without it
-abbrev pub only_name : (read : Option Text) → (files : List Text) → Option Text
-only_name (Some name) files = Some name
-only_name None [] = None
-only_name None (name ∷ names) = Some name
-
--- .. unless standard input is read: without a name, too
-abbrev pub input_of : AskedValue → Option Text
-input_of a = option_and_then named (only_name a.input a.files)
 
 -- the name of the copy's file, unless what is made goes to standard output
 abbrev pub output_of : AskedValue → Option Text

@@ -26,10 +26,15 @@ use Rattle.ether_stream.specs.declared.outcome.RunFault.TheVariants.{Output}
 abbrev pub nothing_read : (count : Option ℕ) → Tally
 nothing_read count = record { packets = 0; skipped = 0; undecided = 0; left = count; status = 0 }
 
--- what is made of the next capture: lines, numbered on, of as many packets as are still asked for
-abbrev pub next_task : ListingValue → (at : Tally) → TaskValue
-next_task l at =
-    record { select = l.select; count = at.left; form = Lines (record l.options { before = Some at.packets }) }
+-- what is made of the next capture, in the file of this name: lines, numbered on, of as many packets as are still asked
+-- for
+abbrev pub next_task : ListingValue → (at : Tally) → (name : List ℕ) → TaskValue
+next_task l at name =
+    record {
+      select = l.select;
+      count = at.left;
+      form = Lines (record l.options { file = named name; before = Some at.packets });
+    }
 
 -- the tally after another capture, which has these packets and this end
 pub record IsTallied (select : Option Selection) (at : Tally) (packets : List PacketValue) (end : FileEnd)
@@ -109,7 +114,7 @@ pub record ReadsFile (r : Reading) (can_tell : Type 0) (l : ListingValue) (name 
     pub packets : List PacketValue
     pub end : FileEnd
     pub mid : Streams
-    pub ended : HasEnded r (next_task l at) (named name) packets before mid end
+    pub ended : HasEnded r (next_task l at name) (named name) packets before mid end
     pub going : end ≢ ends.Read (Err Output)
     pub is_told : Tells can_tell (text_of_capture (named name) end) mid.messages after.messages
     pub kept : after ≡ record mid { messages = after.messages }

@@ -13,7 +13,7 @@ use std::alloc::Global;
 
 /// Copies standard input to the file of a name.
 pub fn copy_input<'a, K: Copies, R: Source>(
-    task: &Task,
+    task: &Task<'_>,
     output: &'a str,
     alloc: Global,
     copies: &mut K,
@@ -34,7 +34,7 @@ pub fn copy_input<'a, K: Copies, R: Source>(
 
 /// Copies the capture of a name to the file of another name, or of the same one.
 pub fn copy_file<'a, C: Captures, K: Copies>(
-    task: &Task,
+    task: &Task<'_>,
     name: &'a str,
     output: &'a str,
     alloc: Global,
@@ -61,7 +61,7 @@ pub fn copy_file<'a, C: Captures, K: Copies>(
 /// Copies what a reader reads, the capture of the name `input` or standard input, to the file of a name, which gets the
 /// copy only when it is whole.
 fn copy_to<K: Copies, R: Source>(
-    task: &Task,
+    task: &Task<'_>,
     input: Option<&str>,
     output: &str,
     alloc: Global,

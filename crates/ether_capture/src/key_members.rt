@@ -2,7 +2,7 @@
 ghost use Rattle.std.specs.Prelude.{◌≡◌, ◌<◌, length, take, drop};
 ghost use Rattle.std.specs.Option.{option_map};
 ghost use Rattle.ether_output.specs.OutputBuffer.{Takes};
-ghost use Rattle.ether_capture.specs.KeyMembers.{comma_if};
+ghost use Rattle.ether_format.specs.Values.{comma_if};
 ghost use Rattle.ether_capture.specs.RowFields.{fields_if, row_fields};
 ghost use Rattle.ether_capture.specs.Statistics.{json_texts, key_members};
 

@@ -4,7 +4,7 @@ ghost use Rattle.ether_content.specs.EditingViews.{edit_view};
 ghost use Rattle.std.specs.Option.{is_some, option_map};
 ghost use Rattle.ether_pcap.specs.CopiedUnits.{copy_mode_view};
 ghost use Rattle.ether_stream.specs.Copying.{growth_if};
-ghost use Rattle.ether_stream.specs.Task.{form_view};
+ghost use Rattle.ether_stream.specs.Task.{form_view, lines_view};
 ghost use Rattle.ether_capture.specs.Options.{Fits, IsFaultOf, IsRequestOf, RefusesAsked, are_several, asked_view, edit_option, excuses, first_columns, is_json, lacking, names_input, names_input_twice, surplus, clashes, clashes_in_columns, clashes_with_by, columns_asked, format_named, is_brief, is_csv, statistics_asked, form_of, format_asked, heading_of, mode_of, options_of, request_view, input_of, makes_copy, named, output_of, selection_of, chooses_packets, clashes_with_merge, clashes_with_copy, forms_packets, makes_packets};
 
 use crate::heading::{Heading, line_of, statistics_format_of, statistics_of};
@@ -58,7 +58,7 @@ pub enum Request<'a> {
 #[derive(Debug, Drop)]
 pub struct Job<'a> {
     /// Whether lines or a copy are made, and of what packets.
-    pub task: Task,
+    pub task: Task<'a>,
     /// The name of the capture's file, unless it is read from standard input.
     pub input: Option<&'a str>,
     /// The name of the copy's file, unless what is made goes to standard output.
@@ -79,7 +79,7 @@ pub struct Listing<'a> {
     /// The number of these after which the run ends; with `None` it ends at the end of the last capture.
     pub count: Option<NonZeroUsize>,
     /// Which lines a packet has.
-    pub options: LineOptions,
+    pub options: LineOptions<'a>,
     /// The names of their files, two at least.
     pub files: Vec<&'a str>,
     /// What is made of columns.
@@ -390,7 +390,7 @@ impl<'a> Asked<'a> {
     }
 
     /// Lines, or a copy if one is asked for.
-    fn form(&self) -> Form
+    fn form(&self) -> Form<'a>
         ensures { form_view result ≡ form_of (asked_view self.now) }
     {
         if self.is_copy() {
@@ -434,10 +434,11 @@ impl<'a> Asked<'a> {
     }
 
     /// Which lines are asked for.
-    fn options(&self) -> LineOptions
-        ensures { result ≡ options_of (asked_view self.now) }
+    fn options(&self) -> LineOptions<'a>
+        ensures { lines_view result ≡ options_of (asked_view self.now) }
     {
         LineOptions {
+            file: name_bytes(self.input()),
             is_plain: self.is_plain || self.has_format(),
             format: self.format(),
             limit: self.limit,
@@ -529,4 +530,14 @@ pub(crate) fn named(name: &str) -> Option<&str>
         return None;
     }
     Some(name)
+}
+
+/// The bytes of a name, if there is one.
+pub(crate) fn name_bytes(name: Option<&str>) -> Option<&[u8]>
+    ensures { option_map (λ n. n.now) result ≡ option_map (λ s. s.now) name.entry }
+{
+    match name {
+        Some(name) => Some(name.as_bytes()),
+        None => None,
+    }
 }

@@ -18,7 +18,7 @@ use std::num::NonZeroUsize;
 /// Like [`run_counted`], with memory of the heap that is allocated first. `jobs` threads may make the lines: here it is
 /// one, since the runtime has no others.
 pub fn run_input<R: Source, W: Sink>(
-    task: &Task,
+    task: &Task<'_>,
     _jobs: Option<NonZeroUsize>,
     alloc: Global,
     reader: &mut R,

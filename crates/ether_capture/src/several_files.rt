@@ -17,7 +17,7 @@ ghost use Rattle.ether_stream.specs.declared.outcome.FileEnd.TheVariants as ends
 ghost use Rattle.ether_stream.specs.declared.outcome.RunFault.TheVariants.{Output};
 
 use crate::captures::Captures;
-use crate::request::{Listing, named};
+use crate::request::{Listing, name_bytes, named};
 use crate::run_input::run_input;
 use ether_output::{OutputBuffer, OutputFault, Sink};
 use ether_stream::{
@@ -157,7 +157,7 @@ fn read_files<C: Captures, R: Source, W: Sink, M: LineSink>(
             return Ok(tally);
         }
         task.count = tally.count();
-        task.form = Form::Lines(options.after(tally.packets));
+        task.form = Form::Lines(options.after(name_bytes(named(name)), tally.packets));
         let (end, counts) = read_file(
             &task, jobs, name, alloc, captures, reader, writer, messages,
         )?;
@@ -169,7 +169,7 @@ fn read_files<C: Captures, R: Source, W: Sink, M: LineSink>(
 /// Writes what is made of one capture, and to `messages` why it was not read to its end, if it was not. Returns how it
 /// ended, and how many packets were read.
 fn read_file<C: Captures, R: Source, W: Sink, M: LineSink>(
-    task: &Task,
+    task: &Task<'_>,
     jobs: Option<NonZeroUsize>,
     name: &str,
     alloc: Global,
@@ -178,7 +178,7 @@ fn read_file<C: Captures, R: Source, W: Sink, M: LineSink>(
     writer: &mut W,
     messages: &mut M,
 ) -> Result<(FileEnd, PacketCounts), OutputFault>
-    ensures ok { (l : ListingValue) (at next : TallyValue) → task_view task.now ≡ next_task l at
+    ensures ok { (l : ListingValue) (at next : TallyValue) → task_view task.now ≡ next_task l at name.now
         → IfOk result (λ it. IsAfter at it.1 it.0 next → (files : List ℕ → Option (List ℕ)) → ReadsFile (reads
         (names (C.has captures.now) C.can_refuse C.Input.Source.can_fail) R.can_fail W.can_fail) M.Sink.can_fail l
         name.now at (streams (R.remaining reader.old) (W.contents writer.old) (M.Sink.contents messages.old) files)
@@ -227,7 +227,7 @@ fn line_of_capture<'a>(name: &'a str, end: &'a FileEnd) -> Option<LastLine<'a>>
 
 /// Writes what is made of one capture, and returns how it ended, and how many packets were read.
 fn end_of_file<C: Captures, R: Source, W: Sink>(
-    task: &Task,
+    task: &Task<'_>,
     jobs: Option<NonZeroUsize>,
     name: &str,
     alloc: Global,

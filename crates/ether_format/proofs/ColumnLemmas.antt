@@ -169,8 +169,8 @@ names_end (ends.Fault start closed cause) = (refl, refl)
 
 pub columns_are_members : ColumnsAreMembers
 columns_are_members = record {
-  packet = λ number p moment. refl;
-  packet_column = λ number p moment. refl;
+  packet = λ origin p moment. refl;
+  packet_column = λ origin p moment. refl;
   header = λ h. (names_told h).0;
   end = λ end. (names_end end).0;
   header_column = λ h. (names_told h).1;

@@ -43,6 +43,7 @@ use Rattle.ether_format.specs.Visits.{Visited}
 use Rattle.ether_format.proofs.ListLemmas.{flat_map-append}
 use Rattle.ether_format.proofs.RowLemmas.{all_shown, as_text, end_elsewhere, end_here, end_no_headers, end_shown_only, found_shown, frame_values, headers_values, next_values, no_values}
 use Rattle.ether_format.proofs.PlainLemmas.{IsPlain, plain_append, plain_escaped, plain_same, plain_value, special_after}
+use Rattle.ether_format.specs.Origins.{OriginValue}
 
 -- ---- the values of headers, and of how a walk ends, are plain
 
@@ -286,21 +287,21 @@ one_at_most : (v : Option Value) → is_several (counted Zero (if_any v)) ≡ fa
 one_at_most None = refl
 one_at_most (Some v) = refl
 
-module _ (number : ℕ) (p : PacketValue) (moment : Option Moment) (hs : List Told) (end : End) where
+module _ (origin : OriginValue) (p : PacketValue) (moment : Option Moment) (hs : List Told) (end : End) where
   abbrev c : HeaderSection → ℕ → ColumnValue
   c s i = column_view (record { section = s; index = i })
 
   abbrev Field : HeaderSection → ℕ → Type 0
   Field s i =
-      IsField (column_text (c s i) (sections_told number p moment hs end))
-      (csv_text (c s i) (sections_told number p moment hs end))
+      IsField (column_text (c s i) (sections_told origin p moment hs end))
+      (csv_text (c s i) (sections_told origin p moment hs end))
       (is_several (counted Zero (shown_values (c s i) hs)))
 
   of_values : (s : HeaderSection) (i : ℕ) (vs : List Value) → ArePlain vs
-      → all_shown s i number p moment hs end ≡ vs
+      → all_shown s i origin p moment hs end ≡ vs
       → is_several (counted Zero vs) ≡ is_several (counted Zero (shown_values (c s i) hs)) → Field s i
   of_values s i vs plain are count =
-      let is = as_text s i number p moment hs end vs are in
+      let is = as_text s i origin p moment hs end vs are in
       record {
         marked = ap has_special (sym is) ∙ special_on vs plain ∙ count;
         same = ap escaped (sym is) ∙ escaped_on true vs plain ∙ is;
@@ -312,7 +313,7 @@ module _ (number : ℕ) (p : PacketValue) (moment : Option Moment) (hs : List To
   of_headers : (s : HeaderSection) (i : ℕ) → (s ≡ parts.Frame → ⊥) → is_end_section s ≡ false → Field s i
   of_headers s i other none =
       of_values s i (shown_values (c s i) hs) (shown_plain (c s i) hs)
-      (headers_values s i other none number p moment hs end) refl
+      (headers_values s i other none origin p moment hs end) refl
 
   end_count : (s : HeaderSection) (i : ℕ) → is_end_section s ≡ true
       → is_several (counted Zero (end_shown (c s i) end)) ≡ false
@@ -330,7 +331,7 @@ module _ (number : ℕ) (p : PacketValue) (moment : Option Moment) (hs : List To
       of_values s i (end_shown (c s i) end)
       (in_plain (c s i) (section_name (end_section end)) (section_rows (end_section end)) (end_values end)
       (end_plain end))
-      (end_shown_only s i last number p moment hs end)
+      (end_shown_only s i last origin p moment hs end)
       (end_count s i last
       ∙ sym (ap (λ (l : List Value). is_several (counted Zero l)) (end_no_headers s i last hs)))
 
@@ -347,12 +348,12 @@ module _ (number : ℕ) (p : PacketValue) (moment : Option Moment) (hs : List To
   column_field parts.Headers i other = of_headers parts.Headers i other refl
 
   -- the value of a column of the packet itself
-  pub frame_field : (i : ℕ) → csv_field (only_text (value_at (packet_columns number p moment) i))
-      ≡ csv_field (csv_text (c parts.Frame i) (sections_told number p moment hs end))
+  pub frame_field : (i : ℕ) → csv_field (only_text (value_at (packet_columns origin p moment) i))
+      ≡ csv_field (csv_text (c parts.Frame i) (sections_told origin p moment hs end))
   frame_field i =
-      let value = value_at (packet_columns number p moment) i in
+      let value = value_at (packet_columns origin p moment) i in
       ap csv_field
-      (only value ∙ ap (join_by csv_value (codes ",")) (sym (frame_values i number p moment hs end)))
+      (only value ∙ ap (join_by csv_value (codes ",")) (sym (frame_values i origin p moment hs end)))
     where
       only : (v : Option Value) → only_text v ≡ join_by csv_value (codes ",") (if_any v)
       only None = refl

@@ -20,17 +20,12 @@ use Rattle.ether_format.specs.declared.line.Line.TheVariants.{Json, Brief}
 use Rattle.ether_format.specs.Members.{Member, Value, members}
 use Rattle.ether_format.specs.Spelling.{json_value}
 use Rattle.ether_format.specs.Told.{Told, place_values, told_members}
-use Rattle.ether_format.specs.Values.{Keyed, keyed, keyed_after, keyed_text, member_view}
-use Rattle.ether_format.specs.declared.value.Member.{Member as DeclaredMember}
+use Rattle.ether_format.specs.Values.{Keyed, keyed, keyed_after, keyed_text}
 use Rattle.ether_format.specs.Brief.{brief_told}
 use Rattle.ether_format.proofs.ColumnLemmas.{found_own, found_told_section}
 use Rattle.ether_format.proofs.ListLemmas.{flat_map-append}
 
 -- ---- members
-
--- a member with its name
-abbrev pub member_text : DeclaredMember → List ℕ
-member_text m = keyed_text (member_view m)
 
 abbrev later : Member → List ℕ
 later m = codes "," ++ json_member m

@@ -18,6 +18,7 @@ use Rattle.ether_format.specs.Texts.{HasText}
 use Rattle.ether_format.specs.Told.{Told}
 use Rattle.ether_format.specs.Visits.{Visited}
 use Rattle.ether_format.proofs.JsonLemmas.{all_objects, brief_headers}
+use Rattle.ether_format.specs.Origins.{OriginValue}
 
 -- ---- headers
 
@@ -35,22 +36,24 @@ headers_visited contents can_fail v out (h ∷ hs) w new visited =
 
 -- ---- a whole line
 
-pub whole_line : (line : Line) (number : ℕ) (p : PacketValue) (moment : Option Moment) (hs : List Told) (end : End)
-    → front_text line number p moment ++ (headers_text line true hs ++ (end_text line p end ++ tail_text line p))
-    ≡ line_text line number p moment hs end
-whole_line Json number p moment hs end =
-    λ i. json_front number p moment ++ (all_objects hs i ++ append-nil (json_end end) i)
-whole_line Brief number p moment hs end =
-    ap (λ l. brief_front number moment ++ (l ++ (brief_end p end ++ (brief_cut p ++ codes "\n"))))
+pub whole_line : (line : Line) (origin : OriginValue) (p : PacketValue) (moment : Option Moment) (hs : List Told)
+    (end : End)
+    → front_text line origin p moment ++ (headers_text line true hs ++ (end_text line p end ++ tail_text line p))
+    ≡ line_text line origin p moment hs end
+whole_line Json origin p moment hs end =
+    λ i. json_front origin p moment ++ (all_objects hs i ++ append-nil (json_end end) i)
+whole_line Brief origin p moment hs end =
+    ap (λ l. brief_front origin.number moment ++ (l ++ (brief_end p end ++ (brief_cut p ++ codes "\n"))))
     (brief_headers true hs)
 
 -- ---- in a format
 
-pub json_text : {W : Type 0} (contents : W → Option (List ℕ)) (can_fail : Type 0) (limit : Option ℕ) (number : ℕ)
+pub json_text : {W : Type 0} (contents : W → Option (List ℕ)) (can_fail : Type 0) (limit : Option ℕ)
+    (origin : OriginValue)
     (p : PacketValue) (old new : OutputBuffer W) (accepted : Bool)
-    → TakesAnswer contents can_fail (HasLine Json limit number p) old new accepted
-    → TakesAnswer contents can_fail (HasText formats.Json limit number p) old new accepted
-json_text contents can_fail limit number p old new accepted a = record {
+    → TakesAnswer contents can_fail (HasLine Json limit origin p) old new accepted
+    → TakesAnswer contents can_fail (HasText formats.Json limit origin p) old new accepted
+json_text contents can_fail limit origin p old new accepted a = record {
   text = a.text;
   answers = record {
     moment = a.answers.moment;
@@ -63,11 +66,12 @@ json_text contents can_fail limit number p old new accepted a = record {
   taken = a.taken;
 }
 
-pub brief_text : {W : Type 0} (contents : W → Option (List ℕ)) (can_fail : Type 0) (limit : Option ℕ) (number : ℕ)
+pub brief_text : {W : Type 0} (contents : W → Option (List ℕ)) (can_fail : Type 0) (limit : Option ℕ)
+    (origin : OriginValue)
     (p : PacketValue) (old new : OutputBuffer W) (accepted : Bool)
-    → TakesAnswer contents can_fail (HasLine Brief limit number p) old new accepted
-    → TakesAnswer contents can_fail (HasText formats.Brief limit number p) old new accepted
-brief_text contents can_fail limit number p old new accepted a = record {
+    → TakesAnswer contents can_fail (HasLine Brief limit origin p) old new accepted
+    → TakesAnswer contents can_fail (HasText formats.Brief limit origin p) old new accepted
+brief_text contents can_fail limit origin p old new accepted a = record {
   text = a.text;
   answers = record {
     moment = a.answers.moment;

@@ -19,6 +19,7 @@ use Rattle.ether_format.specs.Told.{Told, Tells, TellsAfter, TellsCookedV2, Tell
 use Rattle.ether_format.specs.Texts.{HasText, format_text}
 use Rattle.ether_format.specs.Laws.{TextsAreOne}
 use Rattle.ether_format.proofs.OneMoment.{one_moment}
+use Rattle.ether_format.specs.Origins.{OriginValue}
 
 -- what two tell is the same
 abbrev pub Same : (told other : List Told) (end last : End) (accepted also : Bool) → Type 0
@@ -80,15 +81,15 @@ one_time (Some t) None n a b = absurd a
 one_time (Some t) (Some m) None a b = absurd b
 one_time (Some t) (Some m) (Some n) a b = ap Some (one_moment t m n a b)
 
-one_text : (format : Format) (limit : Option ℕ) (number : ℕ) (p : PacketValue) (text other : List ℕ)
+one_text : (format : Format) (limit : Option ℕ) (origin : OriginValue) (p : PacketValue) (text other : List ℕ)
     (accepted also : Bool)
-    → HasText format limit number p text accepted → HasText format limit number p other also
+    → HasText format limit origin p text accepted → HasText format limit origin p other also
     → (text ≡ other) × (accepted ≡ also)
-one_text format limit number p text other accepted also a b =
+one_text format limit origin p text other accepted also a b =
     let same = one_told limit (length p.packet)
     (content_of p) a.headers b.headers a.end b.end accepted also a.tells b.tells in
     let time = one_time p.time a.moment b.moment a.is_moment b.is_moment in
-    (a.is_text ∙ (λ i. format_text format number p (time i) (same.0 i) (same.1 i)) ∙ sym b.is_text, same.2)
+    (a.is_text ∙ (λ i. format_text format origin p (time i) (same.0 i) (same.1 i)) ∙ sym b.is_text, same.2)
 
 pub texts_are_one : TextsAreOne
 texts_are_one = record { moment = one_moment; text = one_text }

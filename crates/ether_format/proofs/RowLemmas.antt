@@ -31,6 +31,7 @@ use Rattle.etherparse.specs.Header as headers
 use Rattle.ether_format.proofs.ColumnLemmas.{few_end_values, in_none, in_other, in_section}
 use Rattle.ether_format.proofs.ListLemmas.{flat_map-append}
 use Rattle.ether_format.proofs.Names.{true_false}
+use Rattle.ether_format.specs.Origins.{OriginValue, origin_view}
 
 -- ---- values one after the other
 
@@ -76,15 +77,16 @@ in_sections c (h ∷ hs) =
         ap (λ (l : List Value). values_in c (section (section_name (told_section k)) (told_members k)) ++ l)
         (append-nil (values_in c (section (codes "headers") (members place_rows (told_place_values k)))))
 
-abbrev frame_shown : ColumnValue → ℕ → PacketValue → Option Moment → List Value
-frame_shown c number p moment =
-    values_in c (section (codes "frame") (members frame_rows (packet_columns number p moment)))
+abbrev frame_shown : ColumnValue → OriginValue → PacketValue → Option Moment → List Value
+frame_shown c origin p moment =
+    values_in c (section (codes "frame") (members frame_rows (packet_columns origin p moment)))
 
-all_values : (c : ColumnValue) (number : ℕ) (p : PacketValue) (moment : Option Moment) (hs : List Told) (end : End)
-    → flat_map (values_in c) (sections_told number p moment hs end)
-    ≡ frame_shown c number p moment ++ (shown_values c hs ++ end_shown c end)
-all_values c number p moment hs end =
-    ap (λ l. frame_shown c number p moment ++ l)
+all_values : (c : ColumnValue) (origin : OriginValue) (p : PacketValue) (moment : Option Moment) (hs : List Told)
+    (end : End)
+    → flat_map (values_in c) (sections_told origin p moment hs end)
+    ≡ frame_shown c origin p moment ++ (shown_values c hs ++ end_shown c end)
+all_values c origin p moment hs end =
+    ap (λ l. frame_shown c origin p moment ++ l)
     (flat_map-append (values_in c) (flat_map header_sections hs) _
     ∙ (λ i. in_sections c hs i ++ append-nil (end_shown c end) i))
 
@@ -116,31 +118,31 @@ module _ (s : HeaderSection) (i : ℕ) where
       λ k. in_none s i h (λ same. true_false (sym (ap is_header same ∙ told_is_header h) ∙ other)) all k
       ++ no_headers hs other all k
 
-  no_frame : (number : ℕ) (p : PacketValue) (moment : Option Moment) → (s ≡ parts.Frame → ⊥)
-      → frame_shown c number p moment ≡ []
-  no_frame number p moment other = in_other s parts.Frame i (members frame_rows (packet_columns number p moment)) other
+  no_frame : (origin : OriginValue) (p : PacketValue) (moment : Option Moment) → (s ≡ parts.Frame → ⊥)
+      → frame_shown c origin p moment ≡ []
+  no_frame origin p moment other = in_other s parts.Frame i (members frame_rows (packet_columns origin p moment)) other
 
   no_end : (end : End) → (s ≡ end_section end → ⊥) → end_shown c end ≡ []
   no_end end other = in_other s (end_section end) i (end_members end) other
 
-  abbrev pub all_shown : ℕ → PacketValue → Option Moment → List Told → End → List Value
-  all_shown number p moment hs end = flat_map (values_in c) (sections_told number p moment hs end)
+  abbrev pub all_shown : OriginValue → PacketValue → Option Moment → List Told → End → List Value
+  all_shown origin p moment hs end = flat_map (values_in c) (sections_told origin p moment hs end)
 
-  pub as_text : (number : ℕ) (p : PacketValue) (moment : Option Moment) (hs : List Told) (end : End)
+  pub as_text : (origin : OriginValue) (p : PacketValue) (moment : Option Moment) (hs : List Told) (end : End)
       (vs : List Value)
-      → all_shown number p moment hs end ≡ vs
-      → column_on true vs ≡ column_text c (sections_told number p moment hs end)
-  as_text number p moment hs end vs are = joined vs ∙ ap (join_by column_value (codes ",")) (sym are)
+      → all_shown origin p moment hs end ≡ vs
+      → column_on true vs ≡ column_text c (sections_told origin p moment hs end)
+  as_text origin p moment hs end vs are = joined vs ∙ ap (join_by column_value (codes ",")) (sym are)
 
 -- a column of the packet itself
-pub frame_values : (i : ℕ) (number : ℕ) (p : PacketValue) (moment : Option Moment) (hs : List Told)
+pub frame_values : (i : ℕ) (origin : OriginValue) (p : PacketValue) (moment : Option Moment) (hs : List Told)
     (end : End)
-    → all_shown parts.Frame i number p moment hs end ≡ if_any (value_at (packet_columns number p moment) i)
-frame_values i number p moment hs end =
+    → all_shown parts.Frame i origin p moment hs end ≡ if_any (value_at (packet_columns origin p moment) i)
+frame_values i origin p moment hs end =
     let f = parts.Frame in
-    let vs = if_any (value_at (packet_columns number p moment) i) in
-    all_values (c f i) number p moment hs end
-    ∙ (λ k. in_section f i (packet_columns number p moment) (omega arith) k
+    let vs = if_any (value_at (packet_columns origin p moment) i) in
+    all_values (c f i) origin p moment hs end
+    ∙ (λ k. in_section f i (packet_columns origin p moment) (omega arith) k
     ++ (no_headers f i hs refl (λ e. absurd cc) k ++ no_end f i end (not_frame end) k))
     ∙ append-nil vs
   where
@@ -149,25 +151,25 @@ frame_values i number p moment hs end =
     not_frame (ends.Skipped len) same = absurd cc
     not_frame (ends.Fault start closed cause) same = absurd cc
 
-pub frame_only : (s : HeaderSection) (i : ℕ) → s ≡ parts.Frame → (number : ℕ) (p : PacketValue)
+pub frame_only : (s : HeaderSection) (i : ℕ) → s ≡ parts.Frame → (origin : OriginValue) (p : PacketValue)
     (moment : Option Moment) (hs : List Told) (end : End)
-    → column_on true (if_any (value_at (packet_columns number p moment) i))
-    ≡ column_text (column_view (record { section = s; index = i })) (sections_told number p moment hs end)
-frame_only s i same number p moment hs end =
-    as_text parts.Frame i number p moment hs end (if_any (value_at (packet_columns number p moment) i))
-    (frame_values i number p moment hs end)
+    → column_on true (if_any (value_at (packet_columns origin p moment) i))
+    ≡ column_text (column_view (record { section = s; index = i })) (sections_told origin p moment hs end)
+frame_only s i same origin p moment hs end =
+    as_text parts.Frame i origin p moment hs end (if_any (value_at (packet_columns origin p moment) i))
+    (frame_values i origin p moment hs end)
     ∙ ap (λ (k : HeaderSection).
-    column_text (column_view (record { section = k; index = i })) (sections_told number p moment hs end))
+    column_text (column_view (record { section = k; index = i })) (sections_told origin p moment hs end))
     (sym same)
 
 -- a column of headers
 pub headers_values : (s : HeaderSection) (i : ℕ) → (s ≡ parts.Frame → ⊥) → is_end_section s ≡ false
-    → (number : ℕ) (p : PacketValue) (moment : Option Moment) (hs : List Told) (end : End)
-    → all_shown s i number p moment hs end ≡ shown_values (column_view (record { section = s; index = i })) hs
-headers_values s i frame last number p moment hs end =
+    → (origin : OriginValue) (p : PacketValue) (moment : Option Moment) (hs : List Told) (end : End)
+    → all_shown s i origin p moment hs end ≡ shown_values (column_view (record { section = s; index = i })) hs
+headers_values s i frame last origin p moment hs end =
     let vs = shown_values (column_view (record { section = s; index = i })) hs in
-    all_values (c s i) number p moment hs end
-    ∙ (λ k. no_frame s i number p moment frame k ++ (vs ++ no_end s i end (not_end end) k))
+    all_values (c s i) origin p moment hs end
+    ∙ (λ k. no_frame s i origin p moment frame k ++ (vs ++ no_end s i end (not_end end) k))
     ∙ append-nil vs
   where
     not_end : (end : End) → s ≡ end_section end → ⊥
@@ -176,12 +178,12 @@ headers_values s i frame last number p moment hs end =
     not_end (ends.Fault start closed cause) same = true_false (sym (ap is_end_section same) ∙ last)
 
 pub headers_only : (s : HeaderSection) (i : ℕ) → (s ≡ parts.Frame → ⊥) → is_end_section s ≡ false
-    → (number : ℕ) (p : PacketValue) (moment : Option Moment) (hs : List Told) (end : End)
+    → (origin : OriginValue) (p : PacketValue) (moment : Option Moment) (hs : List Told) (end : End)
     → column_on true (shown_values (column_view (record { section = s; index = i })) hs)
-    ≡ column_text (column_view (record { section = s; index = i })) (sections_told number p moment hs end)
-headers_only s i frame last number p moment hs end =
-    as_text s i number p moment hs end (shown_values (column_view (record { section = s; index = i })) hs)
-    (headers_values s i frame last number p moment hs end)
+    ≡ column_text (column_view (record { section = s; index = i })) (sections_told origin p moment hs end)
+headers_only s i frame last origin p moment hs end =
+    as_text s i origin p moment hs end (shown_values (column_view (record { section = s; index = i })) hs)
+    (headers_values s i frame last origin p moment hs end)
 
 -- a column of how the walk ends
 end_facts : (s : HeaderSection) → is_end_section s ≡ true
@@ -197,22 +199,22 @@ end_facts parts.Macsec last = absurd cc
 end_facts parts.Arp last = absurd cc
 end_facts parts.Headers last = absurd cc
 
-pub end_shown_only : (s : HeaderSection) (i : ℕ) → is_end_section s ≡ true → (number : ℕ) (p : PacketValue)
+pub end_shown_only : (s : HeaderSection) (i : ℕ) → is_end_section s ≡ true → (origin : OriginValue) (p : PacketValue)
     (moment : Option Moment) (hs : List Told) (end : End)
-    → all_shown s i number p moment hs end ≡ end_shown (column_view (record { section = s; index = i })) end
-end_shown_only s i last number p moment hs end =
+    → all_shown s i origin p moment hs end ≡ end_shown (column_view (record { section = s; index = i })) end
+end_shown_only s i last origin p moment hs end =
     let facts = end_facts s last in
     let vs = end_shown (column_view (record { section = s; index = i })) end in
-    all_values (c s i) number p moment hs end
-    ∙ (λ k. no_frame s i number p moment facts.1.0 k ++ (no_headers s i hs facts.0 facts.1.1 k ++ vs))
+    all_values (c s i) origin p moment hs end
+    ∙ (λ k. no_frame s i origin p moment facts.1.0 k ++ (no_headers s i hs facts.0 facts.1.1 k ++ vs))
 
-pub end_only : (s : HeaderSection) (i : ℕ) → is_end_section s ≡ true → (number : ℕ) (p : PacketValue)
+pub end_only : (s : HeaderSection) (i : ℕ) → is_end_section s ≡ true → (origin : OriginValue) (p : PacketValue)
     (moment : Option Moment) (hs : List Told) (end : End)
     → column_on true (end_shown (column_view (record { section = s; index = i })) end)
-    ≡ column_text (column_view (record { section = s; index = i })) (sections_told number p moment hs end)
-end_only s i last number p moment hs end =
-    as_text s i number p moment hs end (end_shown (column_view (record { section = s; index = i })) end)
-    (end_shown_only s i last number p moment hs end)
+    ≡ column_text (column_view (record { section = s; index = i })) (sections_told origin p moment hs end)
+end_only s i last origin p moment hs end =
+    as_text s i origin p moment hs end (end_shown (column_view (record { section = s; index = i })) end)
+    (end_shown_only s i last origin p moment hs end)
 
 -- columns that have no values in headers
 pub frame_no_headers : (i : ℕ) (hs : List Told)
@@ -405,20 +407,20 @@ module _ {W : Type 0} (separator finish : List ℕ) (field : List Section → Co
 
   abbrev pub WritesColumns : (c : Column) (others : List Column) (old new : OutputBuffer W) → Type 0
   WritesColumns c others old new =
-      OnTold row (λ number p moment told end. Begins (sections_told number p moment told end) c others old new)
+      OnTold row (λ origin p moment told end. Begins (sections_told origin p moment told end) c others old new)
 
   -- a column, and all of them
   abbrev pub WritesField : (c : Column) (old new : OutputBuffer W) → Type 0
   WritesField c old new =
       OnTold row
-      (λ number p moment told end.
-      Takes contents can_fail old (text (sections_told number p moment told end) (column_view c)) new)
+      (λ origin p moment told end.
+      Takes contents can_fail old (text (sections_told origin p moment told end) (column_view c)) new)
 
   abbrev pub WritesRow : (old new : OutputBuffer W) → Type 0
   WritesRow old new =
       OnTold row
-      (λ number p moment told end.
-      Takes contents can_fail old (whole_row (sections_told number p moment told end)) new)
+      (λ origin p moment told end.
+      Takes contents can_fail old (whole_row (sections_told origin p moment told end)) new)
 
   pub columns_start : (first : Column) (others : List Column) (out : OutputBuffer W)
       → columns ≡ column_view first ∷ map column_view others → WritesColumns first others out out
@@ -426,7 +428,8 @@ module _ {W : Type 0} (separator finish : List ℕ) (field : List Section → Co
     bytes = [];
     taken = Takes-none contents can_fail out;
     whole = row_is separator finish field
-        (sections_told row.number (captured_packet_view row.packet.now) moment told end) columns first others are;
+        (sections_told (origin_view row.origin.now) (captured_packet_view row.packet.now) moment told end) columns first
+        others are;
   }
 
   pub columns_next : (c next : Column) (others rest : List Column) (old mid written new : OutputBuffer W)
@@ -434,7 +437,7 @@ module _ {W : Type 0} (separator finish : List ℕ) (field : List Section → Co
       → WritesColumns c others old mid → WritesField c mid written
       → Takes contents can_fail written separator new → WritesColumns next rest old new
   columns_next c next others rest old mid written new are a column between moment told end accepted is tells =
-      let parts = sections_told row.number (captured_packet_view row.packet.now) moment told end in
+      let parts = sections_told (origin_view row.origin.now) (captured_packet_view row.packet.now) moment told end in
       let before = a moment told end accepted is tells in
       let here = text parts (column_view c) in
       let later = from parts next rest in
@@ -458,7 +461,7 @@ module _ {W : Type 0} (separator finish : List ℕ) (field : List Section → Co
       → Takes contents can_fail written finish new
       → WritesRow old new
   columns_end c others old mid written new none a column line moment told end accepted is tells =
-      let parts = sections_told row.number (captured_packet_view row.packet.now) moment told end in
+      let parts = sections_told (origin_view row.origin.now) (captured_packet_view row.packet.now) moment told end in
       let before = a moment told end accepted is tells in
       Takes-same
       (ap (λ (l : List Column). before.bytes ++ (text parts (column_view c)

@@ -13,6 +13,7 @@ use Rattle.ether_format.specs.declared.columns.Columns.{Columns as DeclaredColum
 use Rattle.ether_format.specs.Members.{Member, Value, members, packet_columns}
 use Rattle.ether_format.specs.Told.{Told, end_members, end_section, told_members, told_place_values, told_section}
 use Rattle.ether_format.specs.Spelling.{column_value}
+use Rattle.ether_format.specs.Origins.{OriginValue}
 
 -- ---- what a packet tells, in sections
 
@@ -30,9 +31,9 @@ header_sections h =
     ∷ section (codes "headers") (members place_rows (told_place_values h)) ∷ []
 
 -- the packet, its headers, and how the walk through them ends
-abbrev pub sections : ℕ → PacketValue → Option Moment → List Told → End → List Section
-sections number p moment headers end =
-    section (codes "frame") (members frame_rows (packet_columns number p moment))
+abbrev pub sections : OriginValue → PacketValue → Option Moment → List Told → End → List Section
+sections origin p moment headers end =
+    section (codes "frame") (members frame_rows (packet_columns origin p moment))
     ∷ (flat_map header_sections headers ++ (section (section_name (end_section end)) (end_members end) ∷ []))
 
 -- ---- a column

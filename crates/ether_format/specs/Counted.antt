@@ -36,7 +36,7 @@ CountsHeader old count told new next = (new ≡ old) × (next ≡ counted count 
 -- a column has several values in the headers of a packet
 abbrev pub TellsSeveral : DeclaredColumn → RowPacket → (several : Bool) → Type 0
 TellsSeveral c row several =
-    OnTold row (λ number p moment told end. several ≡ is_several (counted Zero (shown_values (column_view c) told)))
+    OnTold row (λ origin p moment told end. several ≡ is_several (counted Zero (shown_values (column_view c) told)))
 
 -- the bytes of a text or a word
 abbrev pub text_in : Value → Option (List ℕ)
@@ -53,12 +53,12 @@ abbrev pub TakesField : {W : Type 0} → (contents : W → Option (List ℕ)) �
     → RowPacket → (old new : OutputBuffer W) → Type 0
 TakesField contents can_fail c row old new =
     OnTold row
-    (λ number p moment told end.
-    Takes contents can_fail old (csv_field (csv_text (column_view c) (sections_told number p moment told end))) new)
+    (λ origin p moment told end.
+    Takes contents can_fail old (csv_field (csv_text (column_view c) (sections_told origin p moment told end))) new)
 
 abbrev pub TakesRecord : {W : Type 0} → (contents : W → Option (List ℕ)) → (can_fail : Type 0) → List ColumnValue
     → RowPacket → (old new : OutputBuffer W) → Type 0
 TakesRecord contents can_fail columns row old new =
     OnTold row
-    (λ number p moment told end.
-    Takes contents can_fail old (csv_row columns (sections_told number p moment told end)) new)
+    (λ origin p moment told end.
+    Takes contents can_fail old (csv_row columns (sections_told origin p moment told end)) new)

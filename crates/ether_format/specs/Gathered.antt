@@ -21,6 +21,7 @@ use Rattle.ether_format.specs.Columns.{ColumnValue, column_text, column_view, ro
 use Rattle.ether_format.specs.Told.{Told, Tells, told_section}
 use Rattle.ether_format.specs.Values.{column_on, header_shown, still_first}
 use Rattle.ether_format.specs.Visits.{Visited}
+use Rattle.ether_format.specs.Origins.{OriginValue, origin_view}
 
 -- ---- what is gathered
 
@@ -55,31 +56,32 @@ abbrev pub shown_values : ColumnValue → List Told → List Value
 shown_values c told = flat_map (header_shown c) told
 
 -- a claim on what a packet tells, whichever its moment is
-abbrev pub OnTold : RowPacket → (ℕ → PacketValue → Option Moment → List Told → End → Type 0) → Type 0
+abbrev pub OnTold : RowPacket → (OriginValue → PacketValue → Option Moment → List Told → End → Type 0) → Type 0
 OnTold row claim =
     let p = captured_packet_view row.packet.now in
     (moment : Option Moment) (told : List Told) (end : End) (accepted : Bool) → AreMoments p.time moment
-    → Tells row.limit (length p.packet) (content_of p) told end accepted → claim row.number p moment told end
+    → Tells row.limit (length p.packet) (content_of p) told end accepted
+    → claim (origin_view row.origin.now) p moment told end
 
 abbrev pub TakesColumn : {W : Type 0} → (contents : W → Option (List ℕ)) → (can_fail : Type 0) → DeclaredColumn
     → RowPacket → (old new : OutputBuffer W) → Type 0
 TakesColumn contents can_fail c row old new =
     OnTold row
-    (λ number p moment told end.
-    Takes contents can_fail old (column_text (column_view c) (sections_told number p moment told end)) new)
+    (λ origin p moment told end.
+    Takes contents can_fail old (column_text (column_view c) (sections_told origin p moment told end)) new)
 
 abbrev pub TakesRow : {W : Type 0} → (contents : W → Option (List ℕ)) → (can_fail : Type 0) → List ColumnValue
     → RowPacket → (old new : OutputBuffer W) → Type 0
 TakesRow contents can_fail columns row old new =
     OnTold row
-    (λ number p moment told end.
-    Takes contents can_fail old (row_text columns (sections_told number p moment told end)) new)
+    (λ origin p moment told end.
+    Takes contents can_fail old (row_text columns (sections_told origin p moment told end)) new)
 
 abbrev pub TakesAll : {W : Type 0} → (contents : W → Option (List ℕ)) → (can_fail : Type 0) → DeclaredColumn
     → RowPacket → (old new : OutputBuffer W) → Type 0
 TakesAll contents can_fail c row old new =
     OnTold row
-    (λ number p moment told end.
+    (λ origin p moment told end.
     Takes contents can_fail old (column_on true (shown_values (column_view c) told)) new)
 
 -- the values in these headers are written, and whether the next value is the first is returned
@@ -94,7 +96,7 @@ abbrev pub TakesLater : {W : Type 0} → (contents : W → Option (List ℕ)) �
     → (is_first : Bool) → RowPacket → (old new : OutputBuffer W) → Type 0
 TakesLater contents can_fail c is_first row old new =
     OnTold row
-    (λ number p moment told end.
+    (λ origin p moment told end.
     Takes contents can_fail old (column_on is_first (shown_values (column_view c) (drop 4 told))) new)
 
 -- .. in a header, unless it is one of those that are left out

@@ -8,6 +8,7 @@ use Rattle.ether_fields.specs.Fields.{section_name}
 use Rattle.ether_format.specs.declared.end.End.{End}
 use Rattle.ether_format.specs.Told.{Told, told_members, end_section, end_members}
 use Rattle.ether_format.specs.Spelling.{json_value, quoted}
+use Rattle.ether_format.specs.Origins.{OriginValue}
 
 -- a name and a value
 abbrev pub json_member : Member → List ℕ
@@ -27,13 +28,13 @@ json_objects [] = []
 json_objects (h ∷ hs) = json_object (told_members h) ++ flat_map (λ k. codes "," ++ json_object (told_members k)) hs
 
 -- the members of the packet, and the name of its list of headers
-abbrev pub json_front : ℕ → PacketValue → Option Moment → List ℕ
-json_front number p moment = codes "{" ++ (json_members (packet_members number p moment) ++ codes ",\"headers\":[")
+abbrev pub json_front : OriginValue → PacketValue → Option Moment → List ℕ
+json_front origin p moment = codes "{" ++ (json_members (packet_members origin p moment) ++ codes ",\"headers\":[")
 
 -- the end of that list, and how the walk ends, under its name
 abbrev pub json_end : End → List ℕ
 json_end end =
     codes "]," ++ (quoted (section_name (end_section end)) ++ (codes ":" ++ (json_object (end_members end) ++ codes "}\n")))
 
-abbrev pub json_line : ℕ → PacketValue → Option Moment → List Told → End → List ℕ
-json_line number p moment headers end = json_front number p moment ++ (json_objects headers ++ json_end end)
+abbrev pub json_line : OriginValue → PacketValue → Option Moment → List Told → End → List ℕ
+json_line origin p moment headers end = json_front origin p moment ++ (json_objects headers ++ json_end end)

@@ -11,22 +11,23 @@ use Rattle.ether_format.specs.Calendar.{IsMoment}
 use Rattle.ether_format.specs.Members.{members, packet_columns, packet_members}
 use Rattle.ether_format.specs.Told.{Told, end_members, end_section, told_members, told_section}
 use Rattle.ether_format.specs.Texts.{HasText}
+use Rattle.ether_format.specs.Origins.{OriginValue}
 
 -- A time is one moment at most, and a packet has one text.
 pub record TextsAreOne : Type 0 where
   pub moment : (t : TimeValue) (m n : Moment) → IsMoment t m → IsMoment t n → m ≡ n
-  pub text : (format : Format) (limit : Option ℕ) (number : ℕ) (p : PacketValue) (text other : List ℕ)
+  pub text : (format : Format) (limit : Option ℕ) (origin : OriginValue) (p : PacketValue) (text other : List ℕ)
       (accepted also : Bool)
-      → HasText format limit number p text accepted → HasText format limit number p other also → (text ≡ other)
+      → HasText format limit origin p text accepted → HasText format limit origin p other also → (text ≡ other)
       × (accepted ≡ also)
 
 -- The members of a packet, of a header and of the end of a walk have the names of the members of their section; and so
 -- have the values of columns those of its columns, which headers and ends have no others of.
 pub record ColumnsAreMembers : Type 0 where
-  pub packet : (number : ℕ) (p : PacketValue) (moment : Option Moment)
-      → map (λ m. m.name) (packet_members number p moment) ≡ member_names (section_rows Frame)
-  pub packet_column : (number : ℕ) (p : PacketValue) (moment : Option Moment)
-      → map (λ m. m.name) (members frame_rows (packet_columns number p moment)) ≡ column_names (section_rows Frame)
+  pub packet : (origin : OriginValue) (p : PacketValue) (moment : Option Moment)
+      → map (λ m. m.name) (packet_members origin p moment) ≡ member_names (section_rows Frame)
+  pub packet_column : (origin : OriginValue) (p : PacketValue) (moment : Option Moment)
+      → map (λ m. m.name) (members frame_rows (packet_columns origin p moment)) ≡ column_names (section_rows Frame)
   pub header : (h : Told) → map (λ m. m.name) (told_members h) ≡ member_names (section_rows (told_section h))
   pub end : (end : End) → map (λ m. m.name) (end_members end) ≡ member_names (section_rows (end_section end))
   pub header_column : (h : Told)

@@ -1,4 +1,5 @@
 pub mod Calendar
+pub mod Origins
 pub mod Members
 pub mod Causes
 pub mod Told

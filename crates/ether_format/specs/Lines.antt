@@ -14,12 +14,13 @@ use Rattle.ether_format.specs.Calendar.{AreMoments}
 use Rattle.ether_format.specs.Json.{json_end, json_front, json_line, json_object}
 use Rattle.ether_format.specs.Told.{Told, Tells, told_members}
 use Rattle.ether_format.specs.Values.{comma_if}
+use Rattle.ether_format.specs.Origins.{OriginValue}
 
 -- ---- the parts of a line
 
-abbrev pub front_text : Line → ℕ → PacketValue → Option Moment → List ℕ
-front_text Json number p moment = json_front number p moment
-front_text Brief number p moment = brief_front number moment
+abbrev pub front_text : Line → OriginValue → PacketValue → Option Moment → List ℕ
+front_text Json origin p moment = json_front origin p moment
+front_text Brief origin p moment = brief_front origin.number moment
 
 -- a header, which is the first or not
 abbrev pub header_text : Line → (first : Bool) → Told → List ℕ
@@ -38,28 +39,28 @@ abbrev pub tail_text : Line → PacketValue → List ℕ
 tail_text Json p = []
 tail_text Brief p = brief_cut p ++ codes "\n"
 
-abbrev pub line_text : Line → ℕ → PacketValue → Option Moment → List Told → End → List ℕ
-line_text Json number p moment headers end = json_line number p moment headers end
-line_text Brief number p moment headers end = brief_line number p moment headers end
+abbrev pub line_text : Line → OriginValue → PacketValue → Option Moment → List Told → End → List ℕ
+line_text Json origin p moment headers end = json_line origin p moment headers end
+line_text Brief origin p moment headers end = brief_line origin.number p moment headers end
 
 -- ---- what is written
 
 -- a packet's line, at a moment
-pub record HasLine (line : Line) (limit : Option ℕ) (number : ℕ) (p : PacketValue) (text : List ℕ)
+pub record HasLine (line : Line) (limit : Option ℕ) (origin : OriginValue) (p : PacketValue) (text : List ℕ)
     (accepted : Bool) : Type 0 where
   pub moment : Option Moment
   pub is_moment : AreMoments p.time moment
   pub headers : List Told
   pub end : End
   pub tells : Tells limit (length p.packet) (content_of p) headers end accepted
-  pub is_text : text ≡ line_text line number p moment headers end
+  pub is_text : text ≡ line_text line origin p moment headers end
 
 -- what comes before the headers is written, at any moment of the packet
 abbrev pub WritesLineFront : {W : Type 0} → (contents : W → Option (List ℕ)) → (can_fail : Type 0) → Line
-    → (number : ℕ) → PacketValue → (old new : OutputBuffer W) → Type 0
-WritesLineFront contents can_fail line number p old new =
+    → OriginValue → PacketValue → (old new : OutputBuffer W) → Type 0
+WritesLineFront contents can_fail line origin p old new =
     (moment : Option Moment) → AreMoments p.time moment
-    → Takes contents can_fail old (front_text line number p moment) new
+    → Takes contents can_fail old (front_text line origin p moment) new
 
 -- a header is written
 abbrev pub TakesHeader : {W : Type 0} → (contents : W → Option (List ℕ)) → (can_fail : Type 0) → LineHeaders

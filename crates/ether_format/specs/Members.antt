@@ -13,6 +13,7 @@ use Rattle.ether_pcap.specs.Capture.{DirectionValue, Inbound, Outbound, PacketVa
 use Rattle.ether_format.specs.declared.moment.Moment.{Moment}
 use Rattle.ether_format.specs.declared.interval.Interval.{Interval}
 use Rattle.ether_format.specs.declared.interval.Interval.TheVariants as intervals
+use Rattle.ether_format.specs.Origins.{OriginValue}
 
 -- ---- values
 
@@ -121,24 +122,25 @@ abbrev pub direction_word : DirectionValue → List ℕ
 direction_word Inbound = codes "inbound"
 direction_word Outbound = codes "outbound"
 
--- the packet itself: its number, time, link type and lengths; and its interface, its direction and a comment on it
--- (pcapng, 4.3)
-abbrev pub own_packet_values : (number : ℕ) → PacketValue → Option Moment → List (Option Value)
-own_packet_values number p moment =
-    Some (Number number) ∷ Some (if_some Time moment) ∷ Some (Number p.link_type)
+-- the packet itself: its number, time, link type and lengths; its interface, its direction and a comment on it (pcapng,
+-- 4.3); and the name of its file
+abbrev pub own_packet_values : OriginValue → PacketValue → Option Moment → List (Option Value)
+own_packet_values origin p moment =
+    Some (Number origin.number) ∷ Some (if_some Time moment) ∷ Some (Number p.link_type)
     ∷ Some (Number (length p.packet)) ∷ Some (Number p.original_len) ∷ Some (if_some Number p.interface)
-    ∷ Some (if_some (λ d. Word (direction_word d)) p.direction) ∷ Some (if_some Text p.comment) ∷ []
+    ∷ Some (if_some (λ d. Word (direction_word d)) p.direction) ∷ Some (if_some Text p.comment)
+    ∷ Some (if_some Text origin.file) ∷ []
 
 -- .. as an object has them
-abbrev pub packet_values : (number : ℕ) → PacketValue → Option Moment → List (Option Value)
-packet_values number p moment = own_packet_values number p moment ++ (None ∷ None ∷ None ∷ [])
+abbrev pub packet_values : OriginValue → PacketValue → Option Moment → List (Option Value)
+packet_values origin p moment = own_packet_values origin p moment ++ (None ∷ None ∷ None ∷ [])
 
-abbrev pub packet_members : (number : ℕ) → PacketValue → Option Moment → List Member
-packet_members number p moment = members frame_rows (packet_values number p moment)
+abbrev pub packet_members : OriginValue → PacketValue → Option Moment → List Member
+packet_members origin p moment = members frame_rows (packet_values origin p moment)
 
 -- .. and as columns, with the minute, the hour and the day of its time
-abbrev pub packet_columns : (number : ℕ) → PacketValue → Option Moment → List (Option Value)
-packet_columns number p moment =
-    own_packet_values number p moment
+abbrev pub packet_columns : OriginValue → PacketValue → Option Moment → List (Option Value)
+packet_columns origin p moment =
+    own_packet_values origin p moment
     ++ (Some (if_some (Within intervals.Minute) moment) ∷ Some (if_some (Within intervals.Hour) moment)
     ∷ Some (if_some (Within intervals.Day) moment) ∷ [])

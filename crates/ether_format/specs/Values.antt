@@ -1,5 +1,6 @@
 -- Values as they are read and written: for the contracts of private functions.
-use Rattle.std.specs.Prelude.{◌≡◌, ℕ, List, [], ◌∷◌, ◌++◌, take, codes, Bool, true, false, Option, Some, None, slice_index_or}
+use Rattle.std.specs.Prelude.{◌≡◌, ℕ, List, [], ◌∷◌, ◌++◌, take, codes, Bool, true, false, Option, Some, None, slice_index_or, unwrap_or}
+use Rattle.std.specs.Option.{option_map}
 use Rattle.etherparse.specs.Arp.{arp_of}
 use Rattle.etherparse.specs.Ethernet2.{ethernet2_of, fcs_of}
 use Rattle.etherparse.specs.LinuxSll.{linux_sll_of}
@@ -7,7 +8,7 @@ use Rattle.etherparse.specs.Macsec.{sec_tag_of, tag_bytes}
 use Rattle.etherparse.specs.Vlan.{vlan_of}
 use Rattle.ether_peel.specs.declared.peel_unit.PeelUnit.{PeelUnit}
 use Rattle.ether_peel.specs.declared.peel_unit.PeelUnit.TheVariants as units
-use Rattle.ether_pcap.specs.Capture.{PacketValue}
+use Rattle.ether_pcap.specs.Capture.{PacketValue, TimeValue}
 use Rattle.ether_output.specs.OutputBuffer.{Takes}
 use Rattle.ether_output.specs.declared.output_buffer.OutputBuffer.{OutputBuffer}
 use Rattle.ether_fields.specs.declared.section.Section.{Section}
@@ -16,16 +17,17 @@ use Rattle.ether_format.specs.declared.end.End.{End}
 use Rattle.ether_format.specs.declared.moment.Moment.{Moment}
 use Rattle.ether_format.specs.declared.value.Value.{Value as DeclaredValue}
 use Rattle.ether_format.specs.declared.value.Value.TheVariants as values
-use Rattle.ether_format.specs.declared.value.Member.{Member as DeclaredMember}
+use Rattle.ether_format.specs.declared.value.Shown.{Shown}
+use Rattle.ether_format.specs.declared.value.Shown.TheVariants as shown
 use Rattle.ether_format.specs.Calendar.{AreMoments}
 use Rattle.ether_format.specs.Members.{Value, Nothing, Number, Protocol, Flag, Bytes, Dotted, Word, Text, Time, Within, if_some, ethernet2_values, vlan_values, macsec_values, arp_values, linux_sll_values, packet_columns, packet_values}
 use Rattle.ether_format.specs.Spelling.{column_value, json_value}
-use Rattle.ether_format.specs.Json.{json_front}
 use Rattle.ether_format.specs.Told.{Told, end_members, end_section, told_members, told_place_values, told_section}
 use Rattle.ether_format.specs.Columns.{ColumnValue, section, values_in}
 use Rattle.ether_fields.specs.Fields.{key_after, section_name}
 use Rattle.ether_fields.specs.Rows.{Row, arp_rows, ethernet2_rows, frame_rows, linux_sll_rows, macsec_rows, place_rows, vlan_rows}
 use Rattle.ether_format.specs.Members as m
+use Rattle.ether_format.specs.Origins.{OriginValue}
 
 -- ---- values
 
@@ -42,8 +44,6 @@ value_view (values.Bytes bytes) = Bytes bytes.now
 value_view (values.Dotted bytes) = Dotted bytes.now
 value_view (values.Word word) = Word word.now
 value_view (values.Text bytes) = Text bytes.now
-value_view (values.Time m) = Time m
-value_view (values.Within interval m) = Within interval m
 
 -- the value at an index, if there is one
 abbrev pub value_at : List (Option Value) → ℕ → Option Value
@@ -57,10 +57,22 @@ unit_values (units.Vlan bytes) = vlan_values (vlan_of bytes)
 unit_values (units.Macsec packet) = macsec_values (sec_tag_of (tag_bytes packet.header))
 unit_values (units.Arp bytes) = arp_values (arp_of bytes)
 
--- the value of a packet's field
-abbrev pub HasPacketValue : (number : ℕ) → PacketValue → (index : ℕ) → Option Value → Type 0
-HasPacketValue number p index value =
-    (moment : Option Moment) → AreMoments p.time moment → value ≡ value_at (packet_columns number p moment) index
+-- what a packet itself shows, at a moment
+abbrev pub shown_view : Option Moment → Shown → Value
+shown_view moment shown.Time = if_some Time moment
+shown_view moment (shown.Within interval) = if_some (Within interval) moment
+shown_view moment (shown.Value v) = value_view v
+
+-- .. in a field
+abbrev pub ShowsField : OriginValue → PacketValue → (index : ℕ) → Option Shown → Type 0
+ShowsField origin p index s =
+    (moment : Option Moment) → option_map (shown_view moment) s ≡ value_at (packet_columns origin p moment) index
+
+-- a text of the moment of a time is written
+abbrev pub TakesTimed : {W : Type 0} → (contents : W → Option (List ℕ)) → (can_fail : Type 0) → Option TimeValue
+    → (text : Option Moment → List ℕ) → (old new : OutputBuffer W) → Type 0
+TakesTimed contents can_fail time text old new =
+    (moment : Option Moment) → AreMoments time moment → Takes contents can_fail old (text moment) new
 
 -- ---- in an object
 
@@ -74,8 +86,8 @@ pub record Keyed : Type 0 where
   pub key : List ℕ
   pub value : Value
 
-abbrev pub member_view : DeclaredMember → Keyed
-member_view m = record { key = m.key.now; value = value_view m.value }
+abbrev pub keyed_with : (key : List ℕ) → Option Value → Keyed
+keyed_with key value = record { key = key; value = unwrap_or value Nothing }
 
 abbrev pub keyed_text : Keyed → List ℕ
 keyed_text k = k.key ++ json_value k.value
@@ -99,16 +111,9 @@ unit_keyed (units.Vlan bytes) = keyed_after vlan_rows (unit_values (units.Vlan b
 unit_keyed (units.Macsec packet) = keyed_after macsec_rows (unit_values (units.Macsec packet))
 unit_keyed (units.Arp bytes) = keyed_after arp_rows (unit_values (units.Arp bytes))
 
--- the members of a packet
-abbrev pub HasPacketMembers : (number : ℕ) → PacketValue → List Keyed → Type 0
-HasPacketMembers number p given =
-    (moment : Option Moment) → AreMoments p.time moment → given ≡ keyed frame_rows (packet_values number p moment)
-
--- the object of a packet up to its list of headers is written, at any moment of the packet
-abbrev pub WritesFront : {W : Type 0} → (contents : W → Option (List ℕ)) → (can_fail : Type 0) → (number : ℕ)
-    → PacketValue → (old new : OutputBuffer W) → Type 0
-WritesFront contents can_fail number p old new =
-    (moment : Option Moment) → AreMoments p.time moment → Takes contents can_fail old (json_front number p moment) new
+-- the members of a packet itself
+abbrev pub packet_keyed : OriginValue → PacketValue → Option Moment → List Keyed
+packet_keyed origin p moment = keyed frame_rows (packet_values origin p moment)
 
 -- ---- in a column
 

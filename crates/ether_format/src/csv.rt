@@ -1,7 +1,7 @@
 //! Writes a packet as a record of CSV (RFC 4180).
 ghost use Rattle.std.specs.Prelude.{◌≡◌, ◌≢◌, map};
 ghost use Rattle.std.specs.Option.{option_map};
-ghost use Rattle.ether_pcap.specs.CaptureViews.{captured_packet_view};
+ghost use Rattle.ether_pcap.specs.CaptureViews.{captured_packet_view, timestamp_view};
 ghost use Rattle.ether_output.specs.OutputBuffer.{Takes, TakesAnswer};
 ghost use Rattle.ether_fields.specs.declared.section.Section.TheVariants as sections;
 ghost use Rattle.ether_format.specs.declared.csv.Count.TheVariants as counts;
@@ -12,41 +12,44 @@ ghost use Rattle.ether_format.specs.Found.{found_told};
 ghost use Rattle.ether_format.specs.Gathered.{AreGathered, HasEnd, shown_values};
 ghost use Rattle.ether_format.specs.Csv.{csv_field, csv_value};
 ghost use Rattle.ether_format.specs.Texts.{HasText};
-ghost use Rattle.ether_format.specs.Values.{if_any, value_view};
+ghost use Rattle.ether_format.specs.Origins.{origin_view};
+ghost use Rattle.ether_format.specs.Values.{TakesTimed, if_any, shown_view, value_view};
 
 use crate::Columns;
 use crate::column::Column;
 use crate::end::End;
 use crate::found::Found;
 use crate::gathered::{Gatherer, Headers};
+use crate::origin::Origin;
 use crate::row::{RowPacket, write_column};
 use crate::spelling::write_column_value;
 use crate::text::write_csv_text;
-use crate::value::Value;
+use crate::times::{write_time, write_time_interval};
+use crate::value::{Shown, Value};
 use crate::values::packet_value;
 use crate::visit::{Visitor, visit};
 use ether_fields::Section;
 use ether_output::{OutputBuffer, Sink};
-use ether_pcap::CapturedPacket;
+use ether_pcap::{CapturedPacket, Timestamp};
 
 /// Writes the record of a packet, and returns whether no header of the packet is refused.
 #[inline(never)]
 pub(crate) fn write_csv_row<W: Sink>(
     columns: &Columns,
     limit: Option<usize>,
-    number: usize,
+    origin: &Origin<'_>,
     packet: &CapturedPacket<'_>,
     out: &mut OutputBuffer<'_, W>,
 ) -> bool
     ensures { TakesAnswer W.contents W.can_fail
-        (HasText (formats.Csv columns.now) limit number (captured_packet_view packet.now))
+        (HasText (formats.Csv columns.now) limit (origin_view origin.now) (captured_packet_view packet.now))
         out.old out.new result }
 {
     let mut headers = Headers::new();
     let mut gatherer = Gatherer::new();
     let end = visit(packet, limit, &mut gatherer, &mut headers);
     let row = RowPacket {
-        number,
+        origin,
         packet,
         limit,
     };
@@ -101,18 +104,43 @@ fn write_field<W: Sink>(
 {
     if column.section == Section::Frame {
         let index = usize::from(column.index);
-        write_only_field(packet_value(row.number, row.packet, index), out);
+        write_shown_if(
+            packet_value(row.origin, row.packet, index),
+            row.packet.time,
+            out,
+        );
     } else {
         write_values_field(column, row, headers, gatherer, end, out);
     }
 }
 
-/// Writes the only value of a column, if there is one.
-fn write_only_field<W: Sink>(value: Option<Value<'_>>, out: &mut OutputBuffer<'_, W>)
-    ensures { Takes W.contents W.can_fail out.old (csv_field (only_text (option_map value_view value.entry))) out.new }
+/// Writes what a packet itself has in a field, if it has that.
+fn write_shown_if<W: Sink>(
+    shown: Option<Shown<'_>>,
+    time: Option<Timestamp>,
+    out: &mut OutputBuffer<'_, W>,
+)
+    ensures { TakesTimed W.contents W.can_fail (option_map timestamp_view time)
+        (λ moment. csv_field (only_text (option_map (shown_view moment) shown.entry))) out.old out.new }
 {
-    if let Some(value) = value {
-        write_value_field(&value, out);
+    if let Some(shown) = shown {
+        write_shown_field(shown, time, out);
+    }
+}
+
+/// Writes what a packet itself has in a field. No time has a byte that asks for double quotes.
+fn write_shown_field<W: Sink>(
+    shown: Shown<'_>,
+    time: Option<Timestamp>,
+    out: &mut OutputBuffer<'_, W>,
+)
+    ensures { TakesTimed W.contents W.can_fail (option_map timestamp_view time)
+        (λ moment. csv_field (csv_value (shown_view moment shown.entry))) out.old out.new }
+{
+    match shown {
+        Shown::Time => write_time(time, out),
+        Shown::Within(interval) => write_time_interval(interval, time, out),
+        Shown::Value(value) => write_value_field(&value, out),
     }
 }
 

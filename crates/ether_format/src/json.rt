@@ -1,33 +1,34 @@
 //! Writes a packet as a line of JSON.
-ghost use Rattle.std.specs.Prelude.{◌++◌, codes, map};
+ghost use Rattle.std.specs.Prelude.{◌++◌};
 ghost use Rattle.std.specs.List.{flat_map};
 ghost use Rattle.ether_output.specs.OutputBuffer.{Takes};
 ghost use Rattle.ether_pcap.specs.CaptureViews.{captured_packet_view};
 ghost use Rattle.ether_format.specs.Found.{found_told};
 ghost use Rattle.ether_format.specs.FoundHeaders.{found_keyed};
-ghost use Rattle.ether_format.specs.Json.{json_end, json_object};
+ghost use Rattle.ether_format.specs.Json.{json_end, json_front, json_object};
+ghost use Rattle.ether_format.specs.Origins.{origin_view};
 ghost use Rattle.ether_format.specs.Told.{told_members};
-ghost use Rattle.ether_format.specs.Values.{WritesFront, comma_if, keyed_text, member_view, unit_keyed};
+ghost use Rattle.ether_format.specs.Values.{TakesTimed, comma_if, keyed_text, unit_keyed};
 
 use crate::end::End;
 use crate::found::Found;
 use crate::found_header::FoundHeader;
 use crate::members;
-use crate::spelling::write_json_value;
-use crate::value::Member;
+use crate::origin::Origin;
 use ether_output::{OutputBuffer, Sink};
 use ether_pcap::CapturedPacket;
 use ether_peel::PeelUnit;
 
 /// Writes the object of a packet up to its list of headers: its members, and the name of that list.
 pub(crate) fn write_json_front<W: Sink>(
-    number: usize,
+    origin: &Origin<'_>,
     packet: &CapturedPacket<'_>,
     out: &mut OutputBuffer<'_, W>,
 )
-    ensures { WritesFront W.contents W.can_fail number (captured_packet_view packet.now) out.old out.new }
+    ensures { TakesTimed W.contents W.can_fail (captured_packet_view packet.now).time
+        (json_front (origin_view origin.now) (captured_packet_view packet.now)) out.old out.new }
 {
-    write_eight(&members::packet(number, packet), out);
+    members::write_packet_members(origin, packet, out);
     out.append(b",\"headers\":[");
 }
 
@@ -42,7 +43,7 @@ pub(crate) fn write_json_header<W: Sink>(
         (comma_if is_first ++ json_object (told_members (found_told found.now))) out.new }
 {
     write_comma(is_first, out);
-    write_five(&members::placed(found.section, found.place), out);
+    members::write_placed(found.section, found.place, out);
     write_own(&found.header, out);
     out.append(b"}");
 }
@@ -54,8 +55,8 @@ fn write_own<W: Sink>(header: &FoundHeader<'_>, out: &mut OutputBuffer<'_, W>)
 {
     match header {
         FoundHeader::Walked(unit) => write_unit(unit, out),
-        FoundHeader::Cooked(header) => write_members(&members::cooked(header), out),
-        FoundHeader::CookedV2(packet) => write_members(&members::linux_sll2(packet), out),
+        FoundHeader::Cooked(header) => members::write_cooked(header, out),
+        FoundHeader::CookedV2(packet) => members::write_linux_sll2(packet, out),
     }
 }
 
@@ -65,11 +66,11 @@ fn write_unit<W: Sink>(unit: &PeelUnit<'_>, out: &mut OutputBuffer<'_, W>)
     ensures { Takes W.contents W.can_fail out.old (flat_map keyed_text (unit_keyed unit.now)) out.new }
 {
     match unit {
-        PeelUnit::Ethernet2(slice) => write_four(&members::ethernet2(slice), out),
-        PeelUnit::LinuxSll(slice) => write_members(&members::linux_sll(slice), out),
-        PeelUnit::Vlan(slice) => write_four(&members::vlan(slice), out),
-        PeelUnit::Macsec(slice) => write_members(&members::macsec(&slice.header), out),
-        PeelUnit::Arp(slice) => write_nine(&members::arp(slice), out),
+        PeelUnit::Ethernet2(slice) => members::write_ethernet2(slice, out),
+        PeelUnit::LinuxSll(slice) => members::write_linux_sll(slice, out),
+        PeelUnit::Vlan(slice) => members::write_vlan(slice, out),
+        PeelUnit::Macsec(slice) => members::write_macsec(&slice.header, out),
+        PeelUnit::Arp(slice) => members::write_arp(slice, out),
     }
 }
 
@@ -80,27 +81,20 @@ pub(crate) fn write_json_end<W: Sink>(end: &End, out: &mut OutputBuffer<'_, W>)
     match end {
         End::Rest(start, end, kind) => {
             out.append(b"],\"rest\":");
-            write_four(&members::rest(*start, *end, kind), out);
+            members::write_rest(*start, *end, kind, out);
             out.append(b"}}\n");
         }
-        End::Skipped(len) => write_last(b"],\"rest\":", &members::skipped(*len), out),
-        End::Fault(start, closed, cause) => write_last(
-            b"],\"fault\":",
-            &members::fault(*start, *closed, cause),
-            out,
-        ),
+        End::Skipped(len) => {
+            out.append(b"],\"rest\":");
+            members::write_skipped(*len, out);
+            out.append(b"}}\n");
+        }
+        End::Fault(start, closed, cause) => {
+            out.append(b"],\"fault\":");
+            members::write_fault(*start, *closed, cause, out);
+            out.append(b"}}\n");
+        }
     }
-}
-
-/// Writes the last member of the object of a packet, an object of these members, after the text of its name.
-#[inline(always)]
-fn write_last<W: Sink>(name: &[u8], members: &[Member<'_>], out: &mut OutputBuffer<'_, W>)
-    ensures { Takes W.contents W.can_fail out.old
-        (name.now ++ (flat_map keyed_text (map member_view members.now) ++ codes "}}\n")) out.new }
-{
-    out.append(name);
-    write_members(members, out);
-    out.append(b"}}\n");
 }
 
 /// Writes a comma, but not before the first of several.
@@ -111,77 +105,4 @@ pub(crate) fn write_comma<W: Sink>(is_first: bool, out: &mut OutputBuffer<'_, W>
     if !is_first {
         out.append(b",");
     }
-}
-
-/// Writes members, each with its name.
-#[inline(never)]
-fn write_members<W: Sink>(members: &[Member<'_>], out: &mut OutputBuffer<'_, W>)
-    ensures { Takes W.contents W.can_fail out.old (flat_map keyed_text (map member_view members.now)) out.new }
-{
-    for member in members {
-        write_member(member, out);
-    }
-}
-
-/// Writes a member with its name.
-#[inline(always)]
-fn write_member<W: Sink>(member: &Member<'_>, out: &mut OutputBuffer<'_, W>)
-    ensures { Takes W.contents W.can_fail out.old (keyed_text (member_view member.now)) out.new }
-{
-    out.append(member.key.as_bytes());
-    write_json_value(&member.value, out);
-}
-
-/// Writes four members. The compiler then knows each name, and which kind of value has it.
-#[inline(always)]
-fn write_four<W: Sink>(members: &[Member<'_>; 4], out: &mut OutputBuffer<'_, W>)
-    ensures { Takes W.contents W.can_fail out.old (flat_map keyed_text (map member_view members.now)) out.new }
-{
-    write_member(&members[0], out);
-    write_member(&members[1], out);
-    write_member(&members[2], out);
-    write_member(&members[3], out);
-}
-
-/// .. five members.
-#[inline(always)]
-fn write_five<W: Sink>(members: &[Member<'_>; 5], out: &mut OutputBuffer<'_, W>)
-    ensures { Takes W.contents W.can_fail out.old (flat_map keyed_text (map member_view members.now)) out.new }
-{
-    write_member(&members[0], out);
-    write_member(&members[1], out);
-    write_member(&members[2], out);
-    write_member(&members[3], out);
-    write_member(&members[4], out);
-}
-
-/// .. eight members.
-#[inline(always)]
-fn write_eight<W: Sink>(members: &[Member<'_>; 8], out: &mut OutputBuffer<'_, W>)
-    ensures { Takes W.contents W.can_fail out.old (flat_map keyed_text (map member_view members.now)) out.new }
-{
-    write_member(&members[0], out);
-    write_member(&members[1], out);
-    write_member(&members[2], out);
-    write_member(&members[3], out);
-    write_member(&members[4], out);
-    write_member(&members[5], out);
-    write_member(&members[6], out);
-    write_member(&members[7], out);
-}
-
-/// .. nine members.
-#[inline(always)]
-fn write_nine<W: Sink>(members: &[Member<'_>; 9], out: &mut OutputBuffer<'_, W>)
-    ensures { Takes W.contents W.can_fail out.old (flat_map keyed_text (map member_view members.now)) out.new }
-{
-    write_member(&members[0], out);
-    write_member(&members[1], out);
-    write_member(&members[2], out);
-    write_member(&members[3], out);
-    write_member(&members[4], out);
-    write_member(&members[5], out);
-    write_member(&members[6], out);
-    write_member(&members[7], out);
-    write_member(&members[8], out);
 }

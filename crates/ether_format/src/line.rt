@@ -5,11 +5,13 @@ ghost use Rattle.ether_output.specs.OutputBuffer.{Takes, TakesAnswer};
 ghost use Rattle.ether_format.specs.Texts.{HasText};
 ghost use Rattle.ether_format.specs.Lines.{HasLine, WritesLineFront, end_text, header_text, tail_text};
 ghost use Rattle.ether_format.specs.Found.{found_told};
+ghost use Rattle.ether_format.specs.Origins.{origin_view};
 
 use crate::brief::{write_brief_end, write_brief_front, write_brief_header, write_brief_tail};
 use crate::end::End;
 use crate::found::Found;
 use crate::json::{write_json_end, write_json_front, write_json_header};
+use crate::origin::Origin;
 use crate::values::moment_if;
 use crate::visit::{Visitor, visit};
 use ether_output::{OutputBuffer, Sink};
@@ -47,14 +49,14 @@ impl<'a, 'b, W: Sink> Visitor<'a, OutputBuffer<'b, W>> for LineHeaders {
 pub(crate) fn write_line<W: Sink>(
     line: Line,
     limit: Option<usize>,
-    number: usize,
+    origin: &Origin<'_>,
     packet: &CapturedPacket<'_>,
     out: &mut OutputBuffer<'_, W>,
 ) -> bool
-    ensures { TakesAnswer W.contents W.can_fail (HasLine line limit number (captured_packet_view packet.now)) out.old
-        out.new result }
+    ensures { TakesAnswer W.contents W.can_fail
+        (HasLine line limit (origin_view origin.now) (captured_packet_view packet.now)) out.old out.new result }
 {
-    write_front(line, number, packet, out);
+    write_front(line, origin, packet, out);
     let mut headers = LineHeaders {
         line,
         is_first: true,
@@ -69,15 +71,16 @@ pub(crate) fn write_line<W: Sink>(
 #[inline(always)]
 fn write_front<W: Sink>(
     line: Line,
-    number: usize,
+    origin: &Origin<'_>,
     packet: &CapturedPacket<'_>,
     out: &mut OutputBuffer<'_, W>,
 )
-    ensures { WritesLineFront W.contents W.can_fail line number (captured_packet_view packet.now) out.old out.new }
+    ensures { WritesLineFront W.contents W.can_fail line (origin_view origin.now) (captured_packet_view packet.now) out.old
+        out.new }
 {
     match line {
-        Line::Json => write_json_front(number, packet, out),
-        Line::Brief => write_brief_front(number, moment_if(packet.time), out),
+        Line::Json => write_json_front(origin, packet, out),
+        Line::Brief => write_brief_front(origin.number, moment_if(packet.time), out),
     }
 }
 

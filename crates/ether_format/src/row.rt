@@ -1,13 +1,14 @@
 //! Writes a packet as a row of columns.
 ghost use Rattle.std.specs.Prelude.{◌≡◌, true};
 ghost use Rattle.std.specs.Option.{option_map};
-ghost use Rattle.ether_pcap.specs.CaptureViews.{captured_packet_view};
+ghost use Rattle.ether_pcap.specs.CaptureViews.{captured_packet_view, timestamp_view};
 ghost use Rattle.ether_output.specs.OutputBuffer.{Takes, TakesAnswer};
 ghost use Rattle.ether_format.specs.declared.format.Format.TheVariants.{Fields};
 ghost use Rattle.ether_format.specs.Columns.{column_view, columns_view};
 ghost use Rattle.ether_format.specs.Gathered.{AreGathered, HasEnd, TakesAll, TakesColumn, TakesInHeaders, TakesLater, TakesRow};
 ghost use Rattle.ether_format.specs.Texts.{HasText};
-ghost use Rattle.ether_format.specs.Values.{column_on, end_shown, if_any, is_end_section, still_first, value_view};
+ghost use Rattle.ether_format.specs.Origins.{origin_view};
+ghost use Rattle.ether_format.specs.Values.{TakesTimed, column_on, end_shown, if_any, is_end_section, shown_view, still_first, value_view};
 
 use crate::Columns;
 use crate::column::Column;
@@ -16,18 +17,20 @@ use crate::end_values::end_value;
 use crate::found::Found;
 use crate::gathered::{Gatherer, Headers, ROOM};
 use crate::json::write_comma;
+use crate::origin::Origin;
 use crate::spelling::write_column_value;
-use crate::value::Value;
+use crate::times::{write_time, write_time_interval};
+use crate::value::{Shown, Value};
 use crate::values::packet_value;
 use crate::visit::{Visitor, visit};
 use ether_fields::Section;
 use ether_output::{OutputBuffer, Sink};
-use ether_pcap::CapturedPacket;
+use ether_pcap::{CapturedPacket, Timestamp};
 
 /// A packet of a row, and the most VLAN tags and SecTags that are read of it.
 #[derive(Clone, Copy)]
 pub(crate) struct RowPacket<'a> {
-    pub(crate) number: usize,
+    pub(crate) origin: &'a Origin<'a>,
     pub(crate) packet: &'a CapturedPacket<'a>,
     pub(crate) limit: Option<usize>,
 }
@@ -39,19 +42,19 @@ pub(crate) struct RowPacket<'a> {
 pub(crate) fn write_row<W: Sink>(
     columns: &Columns,
     limit: Option<usize>,
-    number: usize,
+    origin: &Origin<'_>,
     packet: &CapturedPacket<'_>,
     out: &mut OutputBuffer<'_, W>,
 ) -> bool
     ensures { TakesAnswer W.contents W.can_fail
-        (HasText (Fields columns.now) limit number (captured_packet_view packet.now))
+        (HasText (Fields columns.now) limit (origin_view origin.now) (captured_packet_view packet.now))
         out.old out.new result }
 {
     let mut headers = Headers::new();
     let mut gatherer = Gatherer::new();
     let end = visit(packet, limit, &mut gatherer, &mut headers);
     let row = RowPacket {
-        number,
+        origin,
         packet,
         limit,
     };
@@ -108,11 +111,33 @@ pub(crate) fn write_column<W: Sink>(
 {
     if column.section == Section::Frame {
         let index = usize::from(column.index);
-        write_only(packet_value(row.number, row.packet, index), out);
+        write_shown(
+            packet_value(row.origin, row.packet, index),
+            row.packet.time,
+            out,
+        );
     } else if is_end(column.section) {
         write_in_end(column, end, out);
     } else {
         write_in_all(column, row, headers, gatherer, out);
+    }
+}
+
+/// Writes what a packet itself has in a field, if it has that.
+#[inline(always)]
+fn write_shown<W: Sink>(
+    shown: Option<Shown<'_>>,
+    time: Option<Timestamp>,
+    out: &mut OutputBuffer<'_, W>,
+)
+    ensures { TakesTimed W.contents W.can_fail (option_map timestamp_view time)
+        (λ moment. column_on true (if_any (option_map (shown_view moment) shown.entry))) out.old out.new }
+{
+    match &shown {
+        Some(Shown::Time) => write_time(time, out),
+        Some(Shown::Within(interval)) => write_time_interval(*interval, time, out),
+        Some(Shown::Value(value)) => write_column_value(value, out),
+        None => {}
     }
 }
 

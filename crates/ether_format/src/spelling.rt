@@ -33,8 +33,6 @@ pub(crate) fn write_json_value<W: Sink>(value: &Value<'_>, out: &mut OutputBuffe
         Value::Dotted(bytes) => write_quoted_dotted(bytes, out),
         Value::Word(word) => write_quoted_word(word, out),
         Value::Text(text) => write_json_text(text, out),
-        Value::Time(moment) => write_json_moment(moment, out),
-        Value::Within(interval, moment) => write_quoted_interval(*interval, moment, out),
     }
 }
 
@@ -56,8 +54,6 @@ pub(crate) fn write_column_value<W: Sink>(value: &Value<'_>, out: &mut OutputBuf
         Value::Dotted(bytes) => write_dotted(bytes, out),
         Value::Word(word) => out.append(word.as_bytes()),
         Value::Text(text) => write_row_text(text, out),
-        Value::Time(moment) => write_moment(moment, out),
-        Value::Within(interval, moment) => write_interval(*interval, moment, out),
     }
 }
 
@@ -107,7 +103,7 @@ fn write_quoted_dotted<W: Sink>(bytes: &[u8], out: &mut OutputBuffer<'_, W>)
 
 /// Writes a moment as a value of JSON: its date between quotation marks, or the number of its seconds.
 #[inline(never)]
-fn write_json_moment<W: Sink>(moment: &Moment, out: &mut OutputBuffer<'_, W>)
+pub(crate) fn write_json_moment<W: Sink>(moment: &Moment, out: &mut OutputBuffer<'_, W>)
     ensures { Takes W.contents W.can_fail out.old (json_moment moment.now) out.new }
 {
     if has_date(moment) {
@@ -215,7 +211,7 @@ pub(crate) fn write_moment<W: Sink>(moment: &Moment, out: &mut OutputBuffer<'_, 
 
 /// Writes an interval of a moment between quotation marks.
 #[inline(never)]
-fn write_quoted_interval<W: Sink>(
+pub(crate) fn write_quoted_interval<W: Sink>(
     interval: Interval,
     moment: &Moment,
     out: &mut OutputBuffer<'_, W>,
@@ -229,7 +225,11 @@ fn write_quoted_interval<W: Sink>(
 
 /// Writes the date of a moment up to the minute, the hour or the day. A moment without a date has none.
 #[inline(never)]
-fn write_interval<W: Sink>(interval: Interval, moment: &Moment, out: &mut OutputBuffer<'_, W>)
+pub(crate) fn write_interval<W: Sink>(
+    interval: Interval,
+    moment: &Moment,
+    out: &mut OutputBuffer<'_, W>,
+)
     ensures { Takes W.contents W.can_fail out.old (interval_text interval moment.now) out.new }
 {
     if has_date(moment) {

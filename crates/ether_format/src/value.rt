@@ -1,5 +1,4 @@
-//! The value of a field, and a member of an object.
-use crate::Moment;
+//! The value of a field.
 use crate::interval::Interval;
 
 /// The value of a field.
@@ -29,17 +28,15 @@ pub(crate) enum Value<'a> {
     Word(&'static str),
     /// A text, which may hold any byte.
     Text(&'a [u8]),
-    /// A time.
-    Time(Moment),
-    /// The minute, the hour or the day of a time.
-    Within(Interval, Moment),
 }
 
-/// A member of an object.
+/// What a packet itself has in a field. Its date is computed only where it is written.
 #[derive(Clone, Copy)]
-pub(crate) struct Member<'a> {
-    /// Its name in JSON, with what precedes it.
-    pub(crate) key: &'static str,
-    /// Its value.
-    pub(crate) value: Value<'a>,
+pub(crate) enum Shown<'a> {
+    /// The time of the packet.
+    Time,
+    /// The minute, the hour or the day of that time.
+    Within(Interval),
+    /// Another value.
+    Value(Value<'a>),
 }

@@ -13,15 +13,17 @@ ghost use Rattle.ether_fields.specs.Fields.{section_name};
 ghost use Rattle.ether_pcap.specs.CaptureViews.{captured_packet_view, direction_view, timestamp_view};
 ghost use Rattle.ether_format.specs.Calendar.{AreMoments};
 ghost use Rattle.ether_format.specs.Told.{place_values};
-ghost use Rattle.ether_format.specs.Members.{Bytes, Number, Text, Time, Within, Word, arp_values, direction_word, ethernet2_values, if_some, linux_sll2_values, linux_sll_values, macsec_values, payload_type_value, payload_word, protocol_address, vlan_values};
-ghost use Rattle.ether_format.specs.Values.{HasPacketValue, unit_values, value_at, value_view};
+ghost use Rattle.ether_format.specs.Members.{Bytes, Number, Text, Word, arp_values, direction_word, ethernet2_values, if_some, linux_sll2_values, linux_sll_values, macsec_values, payload_type_value, payload_word, protocol_address, vlan_values};
+ghost use Rattle.ether_format.specs.Origins.{origin_view};
+ghost use Rattle.ether_format.specs.Values.{ShowsField, unit_values, value_at, value_view};
 
 use crate::Moment;
 use crate::calendar::moment_of;
 use crate::interval::Interval;
+use crate::origin::Origin;
 use crate::place::Place;
 use crate::spelling::first_of;
-use crate::value::Value;
+use crate::value::{Shown, Value};
 use ether_content::CookedHeader;
 use ether_fields::Section;
 use ether_pcap::{CapturedPacket, Direction, Timestamp};
@@ -32,28 +34,28 @@ use etherparse::{
     SingleVlanSlice,
 };
 
-/// The value of a field of a packet itself. Its date is computed only if it is that value.
+/// What a packet itself has in a field.
 #[inline(always)]
 pub(crate) fn packet_value<'a>(
-    number: usize,
+    origin: &Origin<'a>,
     packet: &CapturedPacket<'a>,
     index: usize,
-) -> Option<Value<'a>>
-    ensures { HasPacketValue number (captured_packet_view packet.now) index
-        (option_map value_view result) }
+) -> Option<Shown<'a>>
+    ensures { ShowsField (origin_view origin.now) (captured_packet_view packet.now) index result }
 {
     match index {
-        0 => Some(Value::Number(number as u64)),
-        1 => Some(time_value(moment_if(packet.time))),
-        2 => Some(Value::Number(u64::from(packet.link_type.0))),
-        3 => Some(Value::Number(packet.packet.len() as u64)),
-        4 => Some(Value::Number(u64::from(packet.original_len))),
-        5 => Some(interface_value(packet.interface)),
-        6 => Some(direction_value(packet.direction)),
-        7 => Some(text_value(packet.comment)),
-        8 => Some(interval_value(Interval::Minute, moment_if(packet.time))),
-        9 => Some(interval_value(Interval::Hour, moment_if(packet.time))),
-        10 => Some(interval_value(Interval::Day, moment_if(packet.time))),
+        0 => Some(Shown::Value(Value::Number(origin.number as u64))),
+        1 => Some(Shown::Time),
+        2 => Some(Shown::Value(Value::Number(u64::from(packet.link_type.0)))),
+        3 => Some(Shown::Value(Value::Number(packet.packet.len() as u64))),
+        4 => Some(Shown::Value(Value::Number(u64::from(packet.original_len)))),
+        5 => Some(Shown::Value(interface_value(packet.interface))),
+        6 => Some(Shown::Value(direction_value(packet.direction))),
+        7 => Some(Shown::Value(text_value(packet.comment))),
+        8 => Some(Shown::Value(text_value(origin.file))),
+        9 => Some(Shown::Within(Interval::Minute)),
+        10 => Some(Shown::Within(Interval::Hour)),
+        11 => Some(Shown::Within(Interval::Day)),
         _ => None,
     }
 }
@@ -92,16 +94,6 @@ fn text_value<'a>(text: Option<&'a [u8]>) -> Value<'a>
     }
 }
 
-/// The value of an interval of a time.
-fn interval_value<'a>(interval: Interval, moment: Option<Moment>) -> Value<'a>
-    ensures { value_view result ≡ if_some (Within interval) moment }
-{
-    match moment {
-        Some(moment) => Value::Within(interval, moment),
-        None => Value::Nothing,
-    }
-}
-
 /// The moment of a time, if there is one.
 pub(crate) fn moment_if(time: Option<Timestamp>) -> Option<Moment>
     ensures { AreMoments (option_map timestamp_view time) result }
@@ -109,16 +101,6 @@ pub(crate) fn moment_if(time: Option<Timestamp>) -> Option<Moment>
     match time {
         Some(time) => Some(moment_of(time)),
         None => None,
-    }
-}
-
-/// The value of a time.
-fn time_value<'a>(moment: Option<Moment>) -> Value<'a>
-    ensures { value_view result ≡ if_some Time moment }
-{
-    match moment {
-        Some(moment) => Value::Time(moment),
-        None => Value::Nothing,
     }
 }
 

@@ -17,8 +17,7 @@ use Rattle.ether_stream.specs.Copying.{CopiesOn}
 use Rattle.ether_stream.specs.FrameLines.{AnswersPacket, skip_count}
 use Rattle.ether_stream.specs.Packets.{capture_start, counted}
 use Rattle.ether_stream.specs.Progress.{Made, IsUnitOf, Writes, writes_unit, writes_nothing, writes_packet, Makes, other_text}
-use Rattle.ether_stream.specs.Task.{FormValue, Lines, Copy, IsChosen, packets_before}
-use Rattle.ether_stream.specs.declared.task.LineOptions.{LineOptions}
+use Rattle.ether_stream.specs.Task.{Copy, FormValue, IsChosen, Lines, LinesValue, packets_before}
 use Rattle.ether_stream.proofs.CopiesLemmas.{CopiesOn-start, CopiesOn-unit, CopiesOn-kept, CopiesOn-left, unit_there}
 
 and_true : (b : Bool) → (true && b) ≡ (b && true)
@@ -35,7 +34,7 @@ and_is_true true = refl
 and_is_true false = refl
 
 -- one answered packet more
-pub AreAnswered-push : (select : Option Selection) (options : LineOptions) (before : ℕ) (packets : List PacketValue)
+pub AreAnswered-push : (select : Option Selection) (options : LinesValue) (before : ℕ) (packets : List PacketValue)
     (text : List ℕ) (all : Bool)
     (p : PacketValue) (more : List ℕ) (accepted : Bool)
     → AreAnswered select options before packets text all
@@ -123,7 +122,7 @@ pub record MadeMore (select : Option Selection) (form : FormValue) (packets old 
   pub made : Made select form (with_packet packets packet) kept front text all x
 
 -- the lines of a packet that is chosen or not
-answered_more : (select : Option Selection) (options : LineOptions) (packets kept : List PacketValue)
+answered_more : (select : Option Selection) (options : LinesValue) (packets kept : List PacketValue)
     (front text : List ℕ) (all : Bool) (x y : CaptureExpectation) (p : PacketValue) (own more : List ℕ)
     (accepted : Bool)
     → Selected (IsChosen select) packets kept → Made select (Lines options) packets kept front text all x

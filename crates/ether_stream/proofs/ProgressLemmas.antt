@@ -20,11 +20,10 @@ use Rattle.ether_stream.specs.Counting.{AreCounted}
 use Rattle.ether_stream.specs.FrameLines.{skip_count}
 use Rattle.ether_stream.specs.Packets.{counted, GoesOn, HasFewer, HasOpen, EndsAtCount, IsLeftOf}
 use Rattle.ether_stream.specs.Progress.{CountsOpen, Made, LeavesLess, Reached, IsStart, counts_at, Writes, writes_unit, writes_nothing, writes_packet, Makes, Counts, TakesUnit, StopsUnwritten, Unedited, UneditedIn, StopsAfter, OnNotEdited}
-use Rattle.ether_stream.specs.Task.{TaskValue, FormValue, Lines, Copy, IsChosen, IsBelow, IsOpen, packets_before}
+use Rattle.ether_stream.specs.Task.{Copy, FormValue, IsBelow, IsChosen, IsOpen, Lines, LinesValue, TaskValue, packets_before}
 use Rattle.ether_stream.specs.declared.outcome.RunFault.{RunFault}
 use Rattle.ether_stream.specs.declared.outcome.RunFault.TheVariants as faults
 use Rattle.ether_stream.specs.declared.progress.Progress.{Progress}
-use Rattle.ether_stream.specs.declared.task.LineOptions.{LineOptions}
 use Rattle.ether_stream.proofs.CopiesLemmas.{unit_there}
 use Rattle.ether_stream.proofs.PacketsLemmas.{GoesOn-start, GoesOn-unit, GoesOn-packet}
 use Rattle.ether_stream.proofs.MadeLemmas.{chosen-push, left-push, verdict_with-verdict_of, skipped-push, some_none, front_after, front_len, with_packet, KeptMore, made_more, made_start, packet_of_unit}
@@ -309,7 +308,7 @@ module _ {W X : Type 0} (mode : ModeValue) (select : Option Selection) (count : 
       (subst (λ (z : CaptureExpectation). Begins buffered old.reader len (Some p) z) same begins) kept edits (at ∙ same)
       unit_is (e ∙ no_copy) place same_out some so_far
 
-no_lines : (select : Option Selection) (options : LineOptions) (x : CaptureExpectation) (number : ℕ) (own : List ℕ)
+no_lines : (select : Option Selection) (options : LinesValue) (x : CaptureExpectation) (number : ℕ) (own : List ℕ)
     (packet : Option PacketValue) (accepted : Bool)
     → Makes select (Lines options) x number own packet accepted None → ⊥
 no_lines select options x number own None accepted makes = some_none [] (sym makes.0)

@@ -12,8 +12,7 @@ use Rattle.ether_format.specs.Spelling.{nine_digits}
 use Rattle.ether_format.specs.Texts.{HasText}
 use Rattle.ether_format.specs.declared.format.Format.{Format}
 use Rattle.ether_stream.specs.LinuxSll2Lines.{AnswersLinuxSll2}
-use Rattle.ether_stream.specs.Task.{IsChosen}
-use Rattle.ether_stream.specs.declared.task.LineOptions.{LineOptions}
+use Rattle.ether_stream.specs.Task.{IsChosen, LinesValue}
 
 -- the packet has no lines of a walk
 abbrev pub is_skipped : PacketValue → Bool
@@ -64,25 +63,26 @@ AnswersContent limit (LinuxSll2 bytes) text accepted = AnswersLinuxSll2 limit by
 AnswersContent limit Unknown text accepted = (text ≡ []) × (accepted ≡ true)
 
 -- the lines of a packet of this number, as the walk is told
-pub record HasWalkLines (options : LineOptions) (number : ℕ) (p : PacketValue) (text : List ℕ)
+pub record HasWalkLines (options : LinesValue) (number : ℕ) (p : PacketValue) (text : List ℕ)
     (accepted : Bool) : Type 0 where
   pub lines : List ℕ
   pub content : AnswersContent options.limit (content_of p) lines accepted
   pub whole : text ≡ packet_line_if options.is_plain number p ++ lines
 
 -- the text for a packet of this number: these lines, or that of another format
-abbrev pub HasLinesIn : Option Format → (options : LineOptions) → ℕ → PacketValue → (text : List ℕ) → (accepted : Bool)
+abbrev pub HasLinesIn : Option Format → (options : LinesValue) → ℕ → PacketValue → (text : List ℕ) → (accepted : Bool)
     → Type 0
 HasLinesIn None options number p text accepted = HasWalkLines options number p text accepted
-HasLinesIn (Some format) options number p text accepted = HasText format options.limit number p text accepted
+HasLinesIn (Some format) options number p text accepted =
+    HasText format options.limit (record { file = options.file; number = number }) p text accepted
 
 -- .. which is accepted if its walk ends without a fault, or if faults are excused
-abbrev pub HasLines : (options : LineOptions) → ℕ → PacketValue → (text : List ℕ) → (accepted : Bool) → Type 0
+abbrev pub HasLines : (options : LinesValue) → ℕ → PacketValue → (text : List ℕ) → (accepted : Bool) → Type 0
 HasLines options number p text accepted =
     (ends : Bool) × HasLinesIn options.format options number p text ends × (accepted ≡ ends || options.excuses)
 
 -- .. if it is chosen
-abbrev pub AnswersPacket : (select : Option Selection) → (options : LineOptions) → ℕ → PacketValue → (text : List ℕ)
+abbrev pub AnswersPacket : (select : Option Selection) → (options : LinesValue) → ℕ → PacketValue → (text : List ℕ)
     → (accepted : Bool) → Type 0
 AnswersPacket select options number p text accepted =
     (IsChosen select p × HasLines options number p text accepted)

@@ -19,11 +19,10 @@ use Rattle.ether_stream.specs.Copying.{EditsIf, CopiesOn}
 use Rattle.ether_stream.specs.declared.counts.PacketCounts.{PacketCounts}
 use Rattle.ether_stream.specs.FrameLines.{AnswersPacket, skip_count, totals_line_after}
 use Rattle.ether_stream.specs.Packets.{capture_start, counted, GoesOn, HasFewer, HasOpen, EndsAtCount, IsLeftOf}
-use Rattle.ether_stream.specs.Task.{TaskValue, FormValue, Lines, Copy, IsChosen, IsOpen, packets_before}
+use Rattle.ether_stream.specs.Task.{Copy, FormValue, IsChosen, IsOpen, Lines, LinesValue, TaskValue, packets_before}
 use Rattle.ether_stream.specs.declared.outcome.RunFault.{RunFault}
 use Rattle.ether_stream.specs.declared.outcome.RunFault.TheVariants as faults
 use Rattle.ether_stream.specs.declared.progress.Progress.{Progress}
-use Rattle.ether_stream.specs.declared.task.LineOptions.{LineOptions}
 
 -- ---- what is made of the front of a capture
 
@@ -80,7 +79,7 @@ IsUnitOf x unit None = (before : CaptureExpectation) × Begins unit before (leng
 IsUnitOf x unit (Some p) = Begins unit x (length unit) (Some p) x
 
 -- the lines of a packet of this number, if there is a packet
-abbrev pub Answers : (select : Option Selection) → (options : LineOptions) → (number : ℕ) → Option PacketValue
+abbrev pub Answers : (select : Option Selection) → (options : LinesValue) → (number : ℕ) → Option PacketValue
     → (accepted : Bool) → Option (List ℕ)
     → Type 0
 Answers select options number None accepted text = (text ≡ Some []) × (accepted ≡ true)

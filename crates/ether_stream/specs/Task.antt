@@ -1,5 +1,5 @@
 -- What is made of a capture.
-use Rattle.std.specs.Prelude.{◌<◌, ◌⊎◌, ℕ, Bool, true, false, Option, None, Some, unwrap_or, ⊤}
+use Rattle.std.specs.Prelude.{◌<◌, ◌⊎◌, ℕ, List, Bool, true, false, Option, None, Some, unwrap_or, ⊤}
 use Rattle.std.specs.Int.NonZero.{non_zero_usize_get}
 use Rattle.std.specs.Option.{option_map}
 use Rattle.ether_stream.specs.declared.selection.Selection.{Selection}
@@ -14,11 +14,33 @@ use Rattle.ether_stream.specs.declared.selection.Undecided.TheVariants.{Dropped,
 use Rattle.ether_stream.specs.declared.task.Form.{Form}
 use Rattle.ether_stream.specs.declared.task.Form.TheVariants as forms
 use Rattle.ether_stream.specs.declared.task.LineOptions.{LineOptions}
+use Rattle.ether_format.specs.declared.format.Format.{Format}
 use Rattle.ether_stream.specs.declared.task.Task.{Task}
+
+-- Which lines the packets of a capture have: the name of its file, if that has one; whether the lines of packets and of
+-- totals are left out; another format than lines; how many tags are read of a packet at most; how many packets are in
+-- the captures before this one, if it is one of several; and whether faults are excused.
+pub record LinesValue : Type 0 where
+  pub file : Option (List ℕ)
+  pub is_plain : Bool
+  pub format : Option Format
+  pub limit : Option ℕ
+  pub before : Option ℕ
+  pub excuses : Bool
+
+abbrev pub lines_view : LineOptions → LinesValue
+lines_view o = record {
+  file = option_map (λ name. name.now) o.file;
+  is_plain = o.is_plain;
+  format = o.format;
+  limit = o.limit;
+  before = o.before;
+  excuses = o.excuses;
+}
 
 -- the lines of its packets; or a copy of it, byte for byte or as another capture, each packet as it is, or edited
 pub data FormValue : Type 0 where
-  Lines : (options : LineOptions) → FormValue
+  Lines : (options : LinesValue) → FormValue
   Copy : (mode : ModeValue) → (edit : Option EditValue) → FormValue
 
 -- .. of the packets that are selected, or of all, and of this number of them at most
@@ -28,7 +50,7 @@ pub record TaskValue : Type 0 where
   pub form : FormValue
 
 abbrev pub form_view : Form → FormValue
-form_view (forms.Lines options) = Lines options
+form_view (forms.Lines options) = Lines (lines_view options)
 form_view (forms.Copy mode edit) = Copy (copy_mode_view mode) (option_map edit_view edit)
 
 abbrev pub task_view : Task → TaskValue

@@ -20,7 +20,7 @@ pub struct PacketCounts {
 
 impl PacketCounts {
     /// The counts before a packet was read.
-    pub fn none(task: &Task) -> PacketCounts
+    pub fn none(task: &Task<'_>) -> PacketCounts
         ensures { AreCounted (task_view task.now) [] result }
     {
         PacketCounts {

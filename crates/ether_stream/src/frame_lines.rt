@@ -7,12 +7,13 @@ ghost use Rattle.ether_content.specs.ContentViews.{content_view};
 ghost use Rattle.ether_output.specs.OutputBuffer.{Takes, TakesAnswer};
 ghost use Rattle.ether_stream.specs.FrameLines.{is_skipped, time_text, mark, packet_line_if, HasLines, HasLinesIn, HasWalkLines, told, told_if, totals_line_if, totals_line_after};
 ghost use Rattle.ether_stream.specs.Packets.{counted};
+ghost use Rattle.ether_stream.specs.Task.{lines_view};
 
 use crate::LineOptions;
 use crate::linux_sll_lines::write_linux_sll;
 use crate::linux_sll2_lines::write_linux_sll2;
 use ether_content::{Content, CookedHeader, is_cut};
-use ether_format::{nine_digits, write_packet};
+use ether_format::{Origin, nine_digits, write_packet};
 use ether_output::{OutputBuffer, Sink, eight_digits, write_decimal};
 use ether_pcap::{CapturedPacket, Timestamp};
 use ether_peel::Start;
@@ -23,13 +24,13 @@ use ether_text::write_walk_after;
 ///
 /// The packet has the number after `count`, which is read only if it is written.
 pub fn write_lines<W: Sink>(
-    options: &LineOptions,
+    options: &LineOptions<'_>,
     count: &usize,
     packet: &CapturedPacket<'_>,
     out: &mut OutputBuffer<'_, W>,
 ) -> bool
     ensures { TakesAnswer W.contents W.can_fail
-        (HasLines options.now (counted (count.now + 1)) (captured_packet_view packet.now))
+        (HasLines (lines_view options.now) (counted (count.now + 1)) (captured_packet_view packet.now))
         out.old out.new result }
 {
     let has_no_fault = write_text(options, count, packet, out);
@@ -39,20 +40,24 @@ pub fn write_lines<W: Sink>(
 /// Writes the text of a packet. Returns whether the walk through its headers ends without a fault.
 #[inline(always)]
 fn write_text<W: Sink>(
-    options: &LineOptions,
+    options: &LineOptions<'_>,
     count: &usize,
     packet: &CapturedPacket<'_>,
     out: &mut OutputBuffer<'_, W>,
 ) -> bool
     ensures { TakesAnswer W.contents W.can_fail
-        (HasLinesIn options.now.format options.now (counted (count.now + 1)) (captured_packet_view packet.now))
+        (HasLinesIn options.now.format (lines_view options.now) (counted (count.now + 1))
+        (captured_packet_view packet.now))
         out.old out.new result }
 {
     match &options.format {
         None => write_walk_lines(options, count, packet, out),
         Some(format) => {
-            let number = count.saturating_add(1);
-            write_packet(format, options.limit, number, packet, out)
+            let origin = Origin {
+                file: options.file,
+                number: count.saturating_add(1),
+            };
+            write_packet(format, options.limit, &origin, packet, out)
         }
     }
 }
@@ -63,13 +68,13 @@ fn write_text<W: Sink>(
 /// A packet of another link type than Ethernet and Linux cooked capture is skipped: it has no lines of a walk.
 #[inline(always)]
 fn write_walk_lines<W: Sink>(
-    options: &LineOptions,
+    options: &LineOptions<'_>,
     count: &usize,
     packet: &CapturedPacket<'_>,
     out: &mut OutputBuffer<'_, W>,
 ) -> bool
     ensures { TakesAnswer W.contents W.can_fail
-        (HasWalkLines options.now (counted (count.now + 1)) (captured_packet_view packet.now))
+        (HasWalkLines (lines_view options.now) (counted (count.now + 1)) (captured_packet_view packet.now))
         out.old out.new result }
 {
     let content = Content::of(packet);
@@ -95,7 +100,7 @@ fn write_walk_lines<W: Sink>(
 
 /// Writes the line of the totals, unless the capture is one of several.
 pub fn write_totals_of<W: Sink>(
-    options: &LineOptions,
+    options: &LineOptions<'_>,
     frames: usize,
     skipped: usize,
     undecided: Option<usize>,

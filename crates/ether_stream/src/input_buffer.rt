@@ -62,7 +62,7 @@ impl<B: Grow> InputBuffer<B> {
     pub(crate) fn take_units<T: InterfaceTable, W: Sink>(
         &mut self,
         progress: &mut Progress<T>,
-        task: &Task,
+        task: &Task<'_>,
         edits: &mut EditBuffer<B>,
         out: &mut OutputBuffer<'_, W>,
     ) -> Result<Option<CaptureError>, RunFault>

@@ -32,7 +32,7 @@ pub struct Progress<T: InterfaceTable> {
 
 impl<T: SectionTable> Progress<T> {
     /// The state of a run that has read nothing.
-    pub fn new(task: &Task, interfaces: T) -> Self
+    pub fn new(task: &Task<'_>, interfaces: T) -> Self
         ensures { IsStart (task_view task.now) result }
     {
         Progress {
@@ -65,7 +65,7 @@ impl<T: InterfaceTable> Progress<T> {
     /// reached.
     pub fn take_units<B: Grow, W: Sink>(
         &mut self,
-        task: &Task,
+        task: &Task<'_>,
         edits: &mut EditBuffer<B>,
         bytes: &[u8],
         out: &mut OutputBuffer<'_, W>,
@@ -104,7 +104,7 @@ impl<T: InterfaceTable> Progress<T> {
     #[inline(always)]
     fn take_unit<B: Grow, W: Sink>(
         &mut self,
-        task: &Task,
+        task: &Task<'_>,
         edits: &mut EditBuffer<B>,
         unit: &[u8],
         packet: &Option<CapturedPacket<'_>>,
@@ -147,7 +147,7 @@ impl<T: InterfaceTable> Progress<T> {
     #[inline(always)]
     fn write_unit<B: Grow, W: Sink>(
         &self,
-        task: &Task,
+        task: &Task<'_>,
         is_chosen: bool,
         edits: &mut EditBuffer<B>,
         unit: &[u8],
@@ -184,7 +184,7 @@ impl<T: InterfaceTable> Progress<T> {
 
     /// Writes what a copy has of a unit without a packet, if a copy is made.
     #[inline(always)]
-    fn write_other<W: Sink>(&self, form: &Form, unit: &[u8], out: &mut OutputBuffer<'_, W>)
+    fn write_other<W: Sink>(&self, form: &Form<'_>, unit: &[u8], out: &mut OutputBuffer<'_, W>)
         requires { IsUnitOf self.now.reader unit.now None }
         ensures { Takes W.contents W.can_fail out.old (other_text (form_view form.now) self.now.reader unit.now) out.new }
     {
@@ -195,7 +195,12 @@ impl<T: InterfaceTable> Progress<T> {
 
     /// Counts the packet of a unit, if it has one.
     #[inline(always)]
-    fn count_packet(&mut self, task: &Task, is_chosen: bool, packet: &Option<CapturedPacket<'_>>)
+    fn count_packet(
+        &mut self,
+        task: &Task<'_>,
+        is_chosen: bool,
+        packet: &Option<CapturedPacket<'_>>,
+    )
         requires { IsChoice task.now.selection (option_map captured_packet_view packet.now) is_chosen }
         ensures counts { Counts task.now.selection (option_map captured_packet_view packet.now) self.old self.new }
         ensures same_reader { self.new.reader ≡ self.old.reader }
@@ -239,7 +244,7 @@ impl<T: InterfaceTable> Progress<T> {
     /// verdict.
     pub fn finish<W: Sink>(
         &self,
-        task: &Task,
+        task: &Task<'_>,
         out: &mut OutputBuffer<'_, W>,
     ) -> Result<Verdict, RunFault>
         ensures same_writer { out.new.writer.ghost_name ≡ out.old.writer.ghost_name }
@@ -262,7 +267,7 @@ impl<T: InterfaceTable> Progress<T> {
 
 /// Tests that the packet of a unit is chosen.
 #[inline(always)]
-fn is_chosen(task: &Task, packet: &Option<CapturedPacket<'_>>) -> bool
+fn is_chosen(task: &Task<'_>, packet: &Option<CapturedPacket<'_>>) -> bool
     ensures { IsChoice task.now.selection (option_map captured_packet_view packet.now) result }
 {
     match packet {

@@ -38,7 +38,7 @@ use ether_text::{InputReader, SliceSource, Source, Verdict};
 /// The memory for bytes that are read grows to what the longest record or block needs, 16 MiB at most. If that is
 /// refused, the run stops with [`RunFault::Memory`].
 pub fn run<B: Grow, T: SectionTable, R: Source, W: Sink>(
-    task: &Task,
+    task: &Task<'_>,
     buffers: Buffers<B, T>,
     reader: &mut R,
     writer: &mut W,
@@ -55,7 +55,7 @@ pub fn run<B: Grow, T: SectionTable, R: Source, W: Sink>(
 
 /// Like [`run`], but also returns how many packets were read.
 pub fn run_counted<B: Grow, T: SectionTable, R: Source, W: Sink>(
-    task: &Task,
+    task: &Task<'_>,
     buffers: Buffers<B, T>,
     reader: &mut R,
     writer: &mut W,
@@ -80,7 +80,7 @@ pub fn run_counted<B: Grow, T: SectionTable, R: Source, W: Sink>(
 
 /// Like [`run`] for a capture in a slice. No read can fail, so the outcome is never [`RunFault::Input`].
 pub fn run_slice<B: Grow, T: SectionTable, W: Sink>(
-    task: &Task,
+    task: &Task<'_>,
     buffers: Buffers<B, T>,
     capture: &[u8],
     writer: &mut W,
@@ -96,7 +96,7 @@ pub fn run_slice<B: Grow, T: SectionTable, W: Sink>(
 /// Reads the capture to its end, and writes the text and flushes it. After a fault of the reader or the writer neither
 /// is called again.
 fn answer_capture<B: Grow, T: InterfaceTable, R: Source, W: Sink>(
-    task: &Task,
+    task: &Task<'_>,
     progress: &mut Progress<T>,
     buffer: InputBuffer<B>,
     edits: EditBuffer<B>,
@@ -123,7 +123,7 @@ fn answer_capture<B: Grow, T: InterfaceTable, R: Source, W: Sink>(
 
 /// Reads the capture to its end, and gathers what is written. What is gathered is written out before each read.
 fn read_capture<B: Grow, T: InterfaceTable, R: Source, W: Sink>(
-    task: &Task,
+    task: &Task<'_>,
     progress: &mut Progress<T>,
     buffer: InputBuffer<B>,
     edits: EditBuffer<B>,

@@ -2,7 +2,8 @@
 ghost use Rattle.std.specs.Prelude.{◌≡◌, ◌↔◌, IsTrue, Some};
 ghost use Rattle.ether_pcap.specs.CaptureViews.{captured_packet_view};
 ghost use Rattle.ether_stream.specs.FrameLines.{if_selected};
-ghost use Rattle.ether_stream.specs.Task.{is_copy, packets_before, task_view, IsChosen, IsOpen};
+ghost use Rattle.std.specs.Option.{option_map};
+ghost use Rattle.ether_stream.specs.Task.{is_copy, lines_view, packets_before, task_view, IsChosen, IsOpen};
 
 use crate::selection::Selection;
 use ether_content::PacketEdit;
@@ -12,20 +13,20 @@ use std::num::NonZeroUsize;
 
 /// What is made of a capture, and for which packets.
 #[derive(Debug, Drop)]
-pub struct Task {
+pub struct Task<'a> {
     /// Which packets are chosen; all of them without a selection.
     pub selection: Option<Selection>,
     /// The number of these after which the run ends; with `None` it ends at the end of the capture.
     pub count: Option<NonZeroUsize>,
     /// What is made of them.
-    pub form: Form,
+    pub form: Form<'a>,
 }
 
 /// What is made of the packets of a capture.
 #[derive(Clone, Copy, PartialEq, Eq, Debug)]
-pub enum Form {
+pub enum Form<'a> {
     /// Lines of text.
-    Lines(LineOptions),
+    Lines(LineOptions<'a>),
     /// A copy of the capture with these packets alone.
     Copy {
         /// Whether it is exact, or another capture.
@@ -37,7 +38,9 @@ pub enum Form {
 
 /// Which lines a packet has.
 #[derive(Clone, Copy, PartialEq, Eq, Debug)]
-pub struct LineOptions {
+pub struct LineOptions<'a> {
+    /// The name of the capture's file, if it has one.
+    pub file: Option<&'a [u8]>,
     /// Whether the lines of packets and of totals are left out.
     pub is_plain: bool,
     /// Another format than lines: a packet then has its text in that format, and nothing else.
@@ -50,12 +53,16 @@ pub struct LineOptions {
     pub excuses: bool,
 }
 
-impl LineOptions {
-    /// The same for a capture that follows others with this number of packets.
-    pub fn after(self, packets: usize) -> LineOptions
-        ensures { result ≡ record self { before = Some packets } }
+impl<'a> LineOptions<'a> {
+    /// The same for a capture in the file of this name, if it has one, that follows others with this number of packets.
+    pub fn after(self, file: Option<&'a [u8]>, packets: usize) -> LineOptions<'a>
+        ensures { lines_view result ≡ record (lines_view self.entry) {
+          file = option_map (λ name. name.now) file.entry;
+          before = Some packets;
+        } }
     {
         LineOptions {
+            file,
             is_plain: self.is_plain,
             format: self.format,
             limit: self.limit,
@@ -65,7 +72,7 @@ impl LineOptions {
     }
 }
 
-impl Task {
+impl Task<'_> {
     /// Tests that a packet is chosen.
     #[inline(always)]
     pub fn chooses(&self, packet: &CapturedPacket<'_>) -> bool

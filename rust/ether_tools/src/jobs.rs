@@ -49,8 +49,8 @@ enum Way {
 /// Writes the lines of a capture, made by this number of threads. Returns how the run ended and how many packets were
 /// read, or `None` if the system lacks what it takes: then nothing was read.
 pub fn run_lines<R: Source, W: Sink>(
-    task: &Task,
-    options: &LineOptions,
+    task: &Task<'_>,
+    options: &LineOptions<'_>,
     threads: usize,
     reader: &mut R,
     writer: &mut W,
@@ -77,8 +77,8 @@ pub fn run_lines<R: Source, W: Sink>(
 
 /// A run, and the counts and the verdict of the packets whose lines are written.
 struct Run<'a, 'scope, 'env, W> {
-    task: &'a Task,
-    options: &'a LineOptions,
+    task: &'a Task<'a>,
+    options: &'a LineOptions<'a>,
     cutter: Cutter,
     crew: Crew<'scope, 'env>,
     way: Way,

@@ -151,6 +151,7 @@ table! {
         ether_fields::Extent, ether_fields::Field, ether_fields::FieldPlace, ether_fields::Kind, ether_fields::Part,
         ether_fields::Section, ether_fields::Sizes, ether_format::Columns, ether_format::Format,
         ether_format::Moment;
+    [Clone Copy PartialEq Eq] ether_format::Origin<'static>;
     [Clone Copy PartialEq Eq Hash Error] ether_output::OutputFault;
     [] ether_output::OutputBuffer<'static, u8>;
 }

@@ -19,7 +19,7 @@ use crate::ether_capture::memory::Global;
 ///
 /// </details>
 pub fn copy_input<'a, K: Copies, R: Source>(
-    task: &Task,
+    task: &Task<'_>,
     output: &'a str,
     alloc: Global,
     copies: &mut K,
@@ -46,7 +46,7 @@ pub fn copy_input<'a, K: Copies, R: Source>(
 ///
 /// </details>
 pub fn copy_file<'a, C: Captures, K: Copies>(
-    task: &Task,
+    task: &Task<'_>,
     name: &'a str,
     output: &'a str,
     alloc: Global,
@@ -69,7 +69,7 @@ pub fn copy_file<'a, C: Captures, K: Copies>(
 /// Copies what a reader reads, the capture of the name `input` or standard input, to the file of a name, which gets the
 /// copy only when it is whole.
 fn copy_to<K: Copies, R: Source>(
-    task: &Task,
+    task: &Task<'_>,
     input: Option<&str>,
     output: &str,
     alloc: Global,

@@ -226,7 +226,7 @@ fn run_job<'a, C: Captures, K: Copies, R: Source, W: Sink>(
 
 /// Writes what is made of the capture of a name.
 fn run_file<'a, C: Captures, W: Sink>(
-    task: &Task,
+    task: &Task<'_>,
     jobs: Option<NonZeroUsize>,
     name: &'a str,
     alloc: Global,

@@ -47,7 +47,7 @@ pub enum Request<'a> {
 #[derive(Debug)]
 pub struct Job<'a> {
     /// Whether lines or a copy are made, and of what packets.
-    pub task: Task,
+    pub task: Task<'a>,
     /// The name of the capture's file, unless it is read from standard input.
     pub input: Option<&'a str>,
     /// The name of the copy's file, unless what is made goes to standard output.
@@ -68,7 +68,7 @@ pub struct Listing<'a> {
     /// The number of these after which the run ends; with `None` it ends at the end of the last capture.
     pub count: Option<NonZeroUsize>,
     /// Which lines a packet has.
-    pub options: LineOptions,
+    pub options: LineOptions<'a>,
     /// The names of their files, two at least.
     pub files: Vec<&'a str>,
     /// What is made of columns.
@@ -328,7 +328,7 @@ impl<'a> Asked<'a> {
     }
 
     /// Lines, or a copy if one is asked for.
-    fn form(&self) -> Form {
+    fn form(&self) -> Form<'a> {
         if self.is_copy() {
             Form::Copy {
                 mode: self.mode(),
@@ -364,8 +364,9 @@ impl<'a> Asked<'a> {
     }
 
     /// Which lines are asked for.
-    fn options(&self) -> LineOptions {
+    fn options(&self) -> LineOptions<'a> {
         LineOptions {
+            file: name_bytes(self.input()),
             is_plain: self.is_plain || self.has_format(),
             format: self.format(),
             limit: self.limit,
@@ -443,4 +444,12 @@ pub(in crate::ether_capture) fn named(name: &str) -> Option<&str> {
         return None;
     }
     Some(name)
+}
+
+/// The bytes of a name, if there is one.
+pub(in crate::ether_capture) fn name_bytes(name: Option<&str>) -> Option<&[u8]> {
+    match name {
+        Some(name) => Some(name.as_bytes()),
+        None => None,
+    }
 }

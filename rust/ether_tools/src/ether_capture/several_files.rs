@@ -1,7 +1,7 @@
 //! Reads several captures, one after the other.
 
 use crate::ether_capture::captures::Captures;
-use crate::ether_capture::request::{Listing, named};
+use crate::ether_capture::request::{Listing, name_bytes, named};
 use crate::ether_capture::run_input::run_input;
 use etherpeel::ether_output::{OutputBuffer, OutputFault, Sink};
 use crate::ether_stream::{
@@ -123,7 +123,7 @@ fn read_files<C: Captures, R: Source, W: Sink, M: LineSink>(
             return Ok(tally);
         }
         task.count = tally.count();
-        task.form = Form::Lines(options.after(tally.packets));
+        task.form = Form::Lines(options.after(name_bytes(named(name)), tally.packets));
         let (end, counts) = read_file(
             &task, jobs, name, alloc, captures, reader, writer, messages,
         )?;
@@ -135,7 +135,7 @@ fn read_files<C: Captures, R: Source, W: Sink, M: LineSink>(
 /// Writes what is made of one capture, and to `messages` why it was not read to its end, if it was not. Returns how it
 /// ended, and how many packets were read.
 fn read_file<C: Captures, R: Source, W: Sink, M: LineSink>(
-    task: &Task,
+    task: &Task<'_>,
     jobs: Option<NonZeroUsize>,
     name: &str,
     alloc: Global,
@@ -176,7 +176,7 @@ fn line_of_capture<'a>(name: &'a str, end: &'a FileEnd) -> Option<LastLine<'a>> 
 
 /// Writes what is made of one capture, and returns how it ended, and how many packets were read.
 fn end_of_file<C: Captures, R: Source, W: Sink>(
-    task: &Task,
+    task: &Task<'_>,
     jobs: Option<NonZeroUsize>,
     name: &str,
     alloc: Global,

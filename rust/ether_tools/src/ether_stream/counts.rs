@@ -25,7 +25,7 @@ impl PacketCounts {
     /// ```
     ///
     /// </details>
-    pub fn none(task: &Task) -> PacketCounts {
+    pub fn none(task: &Task<'_>) -> PacketCounts {
         PacketCounts {
             number: task.packets_before(),
             skipped: 0,

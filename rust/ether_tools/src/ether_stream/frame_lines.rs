@@ -4,7 +4,7 @@ use crate::ether_stream::LineOptions;
 use crate::ether_stream::linux_sll_lines::write_linux_sll;
 use crate::ether_stream::linux_sll2_lines::write_linux_sll2;
 use etherpeel::ether_content::{Content, CookedHeader, is_cut};
-use etherpeel::ether_format::{nine_digits, write_packet};
+use etherpeel::ether_format::{Origin, nine_digits, write_packet};
 use etherpeel::ether_output::{OutputBuffer, Sink, eight_digits, write_decimal};
 use etherpeel::ether_pcap::{CapturedPacket, Timestamp};
 use etherpeel::ether_peel::Start;
@@ -19,13 +19,13 @@ use crate::ether_text::write_walk_after;
 ///
 /// ```text
 /// ensures { TakesAnswer W.contents W.can_fail
-///     (HasLines options.now (counted (count.now + 1)) (captured_packet_view packet.now))
+///     (HasLines (lines_view options.now) (counted (count.now + 1)) (captured_packet_view packet.now))
 ///     out.old out.new result }
 /// ```
 ///
 /// </details>
 pub fn write_lines<W: Sink>(
-    options: &LineOptions,
+    options: &LineOptions<'_>,
     count: &usize,
     packet: &CapturedPacket<'_>,
     out: &mut OutputBuffer<'_, W>,
@@ -37,7 +37,7 @@ pub fn write_lines<W: Sink>(
 /// Writes the text of a packet. Returns whether the walk through its headers ends without a fault.
 #[inline(always)]
 fn write_text<W: Sink>(
-    options: &LineOptions,
+    options: &LineOptions<'_>,
     count: &usize,
     packet: &CapturedPacket<'_>,
     out: &mut OutputBuffer<'_, W>,
@@ -45,8 +45,11 @@ fn write_text<W: Sink>(
     match &options.format {
         None => write_walk_lines(options, count, packet, out),
         Some(format) => {
-            let number = count.saturating_add(1);
-            write_packet(format, options.limit, number, packet, out)
+            let origin = Origin {
+                file: options.file,
+                number: count.saturating_add(1),
+            };
+            write_packet(format, options.limit, &origin, packet, out)
         }
     }
 }
@@ -57,7 +60,7 @@ fn write_text<W: Sink>(
 /// A packet of another link type than Ethernet and Linux cooked capture is skipped: it has no lines of a walk.
 #[inline(always)]
 fn write_walk_lines<W: Sink>(
-    options: &LineOptions,
+    options: &LineOptions<'_>,
     count: &usize,
     packet: &CapturedPacket<'_>,
     out: &mut OutputBuffer<'_, W>,
@@ -94,7 +97,7 @@ fn write_walk_lines<W: Sink>(
 ///
 /// </details>
 pub fn write_totals_of<W: Sink>(
-    options: &LineOptions,
+    options: &LineOptions<'_>,
     frames: usize,
     skipped: usize,
     undecided: Option<usize>,

@@ -28,7 +28,7 @@ impl<T: SectionTable> Progress<T> {
     /// ```
     ///
     /// </details>
-    pub fn new(task: &Task, interfaces: T) -> Self {
+    pub fn new(task: &Task<'_>, interfaces: T) -> Self {
         Progress {
             reader: CaptureReader::new(interfaces),
             count: task.packets_before(),
@@ -81,7 +81,7 @@ impl<T: InterfaceTable> Progress<T> {
     /// </details>
     pub fn take_units<B: Grow, W: Sink>(
         &mut self,
-        task: &Task,
+        task: &Task<'_>,
         edits: &mut EditBuffer<B>,
         bytes: &[u8],
         out: &mut OutputBuffer<'_, W>,
@@ -108,7 +108,7 @@ impl<T: InterfaceTable> Progress<T> {
     #[inline(always)]
     fn take_unit<B: Grow, W: Sink>(
         &mut self,
-        task: &Task,
+        task: &Task<'_>,
         edits: &mut EditBuffer<B>,
         unit: &[u8],
         packet: &Option<CapturedPacket<'_>>,
@@ -138,7 +138,7 @@ impl<T: InterfaceTable> Progress<T> {
     #[inline(always)]
     fn write_unit<B: Grow, W: Sink>(
         &self,
-        task: &Task,
+        task: &Task<'_>,
         is_chosen: bool,
         edits: &mut EditBuffer<B>,
         unit: &[u8],
@@ -166,7 +166,7 @@ impl<T: InterfaceTable> Progress<T> {
 
     /// Writes what a copy has of a unit without a packet, if a copy is made.
     #[inline(always)]
-    fn write_other<W: Sink>(&self, form: &Form, unit: &[u8], out: &mut OutputBuffer<'_, W>) {
+    fn write_other<W: Sink>(&self, form: &Form<'_>, unit: &[u8], out: &mut OutputBuffer<'_, W>) {
         if let Form::Copy { mode, .. } = form {
             write_other(&self.reader, *mode, unit, out);
         }
@@ -174,7 +174,12 @@ impl<T: InterfaceTable> Progress<T> {
 
     /// Counts the packet of a unit, if it has one.
     #[inline(always)]
-    fn count_packet(&mut self, task: &Task, is_chosen: bool, packet: &Option<CapturedPacket<'_>>) {
+    fn count_packet(
+        &mut self,
+        task: &Task<'_>,
+        is_chosen: bool,
+        packet: &Option<CapturedPacket<'_>>,
+    ) {
         let Some(packet) = packet else {
             return;
         };
@@ -239,7 +244,7 @@ impl<T: InterfaceTable> Progress<T> {
     /// </details>
     pub fn finish<W: Sink>(
         &self,
-        task: &Task,
+        task: &Task<'_>,
         out: &mut OutputBuffer<'_, W>,
     ) -> Result<Verdict, RunFault> {
         if let Form::Lines(options) = &task.form {
@@ -253,7 +258,7 @@ impl<T: InterfaceTable> Progress<T> {
 
 /// Tests that the packet of a unit is chosen.
 #[inline(always)]
-fn is_chosen(task: &Task, packet: &Option<CapturedPacket<'_>>) -> bool {
+fn is_chosen(task: &Task<'_>, packet: &Option<CapturedPacket<'_>>) -> bool {
     match packet {
         Some(packet) => task.chooses(packet),
         None => false,

@@ -40,7 +40,7 @@ use crate::ether_text::{InputReader, SliceSource, Source, Verdict};
 ///
 /// </details>
 pub fn run<B: Grow, T: SectionTable, R: Source, W: Sink>(
-    task: &Task,
+    task: &Task<'_>,
     buffers: Buffers<B, T>,
     reader: &mut R,
     writer: &mut W,
@@ -63,7 +63,7 @@ pub fn run<B: Grow, T: SectionTable, R: Source, W: Sink>(
 ///
 /// </details>
 pub fn run_counted<B: Grow, T: SectionTable, R: Source, W: Sink>(
-    task: &Task,
+    task: &Task<'_>,
     buffers: Buffers<B, T>,
     reader: &mut R,
     writer: &mut W,
@@ -92,7 +92,7 @@ pub fn run_counted<B: Grow, T: SectionTable, R: Source, W: Sink>(
 ///
 /// </details>
 pub fn run_slice<B: Grow, T: SectionTable, W: Sink>(
-    task: &Task,
+    task: &Task<'_>,
     buffers: Buffers<B, T>,
     capture: &[u8],
     writer: &mut W,
@@ -104,7 +104,7 @@ pub fn run_slice<B: Grow, T: SectionTable, W: Sink>(
 /// Reads the capture to its end, and writes the text and flushes it. After a fault of the reader or the writer neither
 /// is called again.
 fn answer_capture<B: Grow, T: InterfaceTable, R: Source, W: Sink>(
-    task: &Task,
+    task: &Task<'_>,
     progress: &mut Progress<T>,
     buffer: InputBuffer<B>,
     edits: EditBuffer<B>,
@@ -120,7 +120,7 @@ fn answer_capture<B: Grow, T: InterfaceTable, R: Source, W: Sink>(
 
 /// Reads the capture to its end, and gathers what is written. What is gathered is written out before each read.
 fn read_capture<B: Grow, T: InterfaceTable, R: Source, W: Sink>(
-    task: &Task,
+    task: &Task<'_>,
     progress: &mut Progress<T>,
     buffer: InputBuffer<B>,
     edits: EditBuffer<B>,

@@ -27,9 +27,9 @@ const MOST_BYTES: usize = 4_194_304;
 #[derive(Clone, Copy)]
 pub struct Work<'a> {
     /// Which packets are chosen.
-    pub task: &'a Task,
+    pub task: &'a Task<'a>,
     /// Which lines a packet has.
-    pub options: &'a LineOptions,
+    pub options: &'a LineOptions<'a>,
     /// What a thread rings whenever something is done.
     pub bell: &'a Bell,
 }

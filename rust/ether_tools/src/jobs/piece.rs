@@ -65,7 +65,7 @@ impl Piece {
     }
 
     /// Makes the lines of its packets, up to the last one that is asked for.
-    pub fn make(&mut self, task: &Task, options: &LineOptions) {
+    pub fn make(&mut self, task: &Task<'_>, options: &LineOptions) {
         self.made.begin(self.before, self.asked_for);
         let mut reader = self.reader.clone();
         let mut text = mem::take(&mut self.made.text);
@@ -117,8 +117,8 @@ impl Made {
     /// Makes the lines of a packet, if it is chosen, and counts it.
     fn take<W: Sink>(
         &mut self,
-        task: &Task,
-        options: &LineOptions,
+        task: &Task<'_>,
+        options: &LineOptions<'_>,
         packet: &CapturedPacket<'_>,
         out: &mut OutputBuffer<'_, W>,
     ) {

@@ -253,6 +253,7 @@
 //!     ∷ computed (codes "interface") (codes "Interface ID") kind.Number
 //!     ∷ computed (codes "direction") (codes "Direction") kind.Word
 //!     ∷ computed (codes "comment") (codes "Comment") kind.Bytes
+//!     ∷ computed (codes "file") (codes "File") kind.Bytes
 //!     ∷ column_only (computed (codes "minute") (codes "Minute") kind.Time)
 //!     ∷ column_only (computed (codes "hour") (codes "Hour") kind.Time)
 //!     ∷ column_only (computed (codes "day") (codes "Day") kind.Time)

@@ -130,6 +130,33 @@
 //!
 //! Uses: [`TimeValue`](crate::definitions::ether_pcap#def.TimeValue), [`IsMoment`](#def.IsMoment)
 //!
+//! # Origins
+//!
+//! Where a packet comes from.
+//!
+//! <a id="def.OriginValue"></a>
+//!
+//! ## `OriginValue`
+//!
+//! The name of its file, if that has one; and its number, counted from 1.
+//!
+//! ```text
+//! pub record OriginValue : Type 0 where
+//!   pub file : Option (List ℕ)
+//!   pub number : ℕ
+//! ```
+//!
+//! <a id="def.origin_view"></a>
+//!
+//! ## `origin_view`
+//!
+//! ```text
+//! abbrev pub origin_view : Origin → OriginValue
+//! origin_view o = record { file = option_map (λ name. name.now) o.file; number = o.number }
+//! ```
+//!
+//! Uses: [`OriginValue`](#def.OriginValue)
+//!
 //! # Members
 //!
 //! What a header says: its members, each with a name and a value. Lines of JSON and columns are spelled from them.
@@ -161,7 +188,7 @@
 //!
 //! Uses: [`Interval`](#def.Interval)
 //!
-//! <a id="def.Members.Member"></a>
+//! <a id="def.Member"></a>
 //!
 //! ## `Member`
 //!
@@ -182,7 +209,7 @@
 //! member name value = record { name = name; value = value }
 //! ```
 //!
-//! Uses: [`Value`](#def.Members.Value), [`Member`](#def.Members.Member)
+//! Uses: [`Value`](#def.Members.Value), [`Member`](#def.Member)
 //!
 //! <a id="def.if_some"></a>
 //!
@@ -211,7 +238,7 @@
 //! members rows values = []
 //! ```
 //!
-//! Uses: [`Row`](crate::definitions::ether_fields#def.Row), [`Value`](#def.Members.Value), [`Member`](#def.Members.Member), [`member`](#def.member)
+//! Uses: [`Row`](crate::definitions::ether_fields#def.Row), [`Value`](#def.Members.Value), [`Member`](#def.Member), [`member`](#def.member)
 //!
 //! **The values of each header's fields, in the order of its rows**
 //!
@@ -384,64 +411,65 @@
 //!
 //! ## `own_packet_values`
 //!
-//! The packet itself: its number, time, link type and lengths; and its interface, its direction and a comment on it
-//! (pcapng, 4.3).
+//! The packet itself: its number, time, link type and lengths; its interface, its direction and a comment on it (pcapng,
+//! 4.3); and the name of its file.
 //!
 //! ```text
-//! abbrev pub own_packet_values : (number : ℕ) → PacketValue → Option Moment → List (Option Value)
-//! own_packet_values number p moment =
-//!     Some (Number number) ∷ Some (if_some Time moment) ∷ Some (Number p.link_type)
+//! abbrev pub own_packet_values : OriginValue → PacketValue → Option Moment → List (Option Value)
+//! own_packet_values origin p moment =
+//!     Some (Number origin.number) ∷ Some (if_some Time moment) ∷ Some (Number p.link_type)
 //!     ∷ Some (Number (length p.packet)) ∷ Some (Number p.original_len) ∷ Some (if_some Number p.interface)
-//!     ∷ Some (if_some (λ d. Word (direction_word d)) p.direction) ∷ Some (if_some Text p.comment) ∷ []
+//!     ∷ Some (if_some (λ d. Word (direction_word d)) p.direction) ∷ Some (if_some Text p.comment)
+//!     ∷ Some (if_some Text origin.file) ∷ []
 //! ```
 //!
-//! Uses: [`PacketValue`](crate::definitions::ether_pcap#def.PacketValue), [`Value`](#def.Members.Value), [`Number`](#def.Members.Value), [`if_some`](#def.if_some), [`Time`](#def.Members.Value), [`Word`](#def.Members.Value), [`direction_word`](#def.direction_word), [`Text`](#def.Members.Value)
+//! Uses: [`OriginValue`](#def.OriginValue), [`PacketValue`](crate::definitions::ether_pcap#def.PacketValue), [`Value`](#def.Members.Value), [`Number`](#def.Members.Value), [`if_some`](#def.if_some), [`Time`](#def.Members.Value), [`Word`](#def.Members.Value), [`direction_word`](#def.direction_word), [`Text`](#def.Members.Value)
 //!
 //! <a id="def.packet_values"></a>
 //!
 //! ## `packet_values`
 //!
-//! > `own_packet_values`: the packet itself: its number, time, link type and lengths; and its interface, its direction and a comment on it (pcapng, 4.3)
+//! > `own_packet_values`: the packet itself: its number, time, link type and lengths; its interface, its direction and a comment on it (pcapng, 4.3); and the name of its file
 //!
 //! .. as an object has them.
 //!
 //! ```text
-//! abbrev pub packet_values : (number : ℕ) → PacketValue → Option Moment → List (Option Value)
-//! packet_values number p moment = own_packet_values number p moment ++ (None ∷ None ∷ None ∷ [])
+//! abbrev pub packet_values : OriginValue → PacketValue → Option Moment → List (Option Value)
+//! packet_values origin p moment = own_packet_values origin p moment ++ (None ∷ None ∷ None ∷ [])
 //! ```
 //!
-//! Uses: [`PacketValue`](crate::definitions::ether_pcap#def.PacketValue), [`Value`](#def.Members.Value), [`own_packet_values`](#def.own_packet_values)
+//! Uses: [`OriginValue`](#def.OriginValue), [`PacketValue`](crate::definitions::ether_pcap#def.PacketValue), [`Value`](#def.Members.Value), [`own_packet_values`](#def.own_packet_values)
 //!
 //! <a id="def.packet_members"></a>
 //!
 //! ## `packet_members`
 //!
 //! ```text
-//! abbrev pub packet_members : (number : ℕ) → PacketValue → Option Moment → List Member
-//! packet_members number p moment = members frame_rows (packet_values number p moment)
+//! abbrev pub packet_members : OriginValue → PacketValue → Option Moment → List Member
+//! packet_members origin p moment = members frame_rows (packet_values origin p moment)
 //! ```
 //!
-//! Uses: [`PacketValue`](crate::definitions::ether_pcap#def.PacketValue), [`Member`](#def.Members.Member), [`members`](#def.members), [`frame_rows`](crate::definitions::ether_fields#def.frame_rows), [`packet_values`](#def.packet_values)
+//! Uses: [`OriginValue`](#def.OriginValue), [`PacketValue`](crate::definitions::ether_pcap#def.PacketValue), [`Member`](#def.Member), [`members`](#def.members), [`frame_rows`](crate::definitions::ether_fields#def.frame_rows), [`packet_values`](#def.packet_values)
 //!
 //! <a id="def.packet_columns"></a>
 //!
 //! ## `packet_columns`
 //!
-//! > `own_packet_values`: the packet itself: its number, time, link type and lengths; and its interface, its direction and a comment on it (pcapng, 4.3)
+//! > `own_packet_values`: the packet itself: its number, time, link type and lengths; its interface, its direction and a comment on it (pcapng, 4.3); and the name of its file
 //! >
 //! > `packet_values`: .. as an object has them
 //!
 //! .. and as columns, with the minute, the hour and the day of its time.
 //!
 //! ```text
-//! abbrev pub packet_columns : (number : ℕ) → PacketValue → Option Moment → List (Option Value)
-//! packet_columns number p moment =
-//!     own_packet_values number p moment
+//! abbrev pub packet_columns : OriginValue → PacketValue → Option Moment → List (Option Value)
+//! packet_columns origin p moment =
+//!     own_packet_values origin p moment
 //!     ++ (Some (if_some (Within intervals.Minute) moment) ∷ Some (if_some (Within intervals.Hour) moment)
 //!     ∷ Some (if_some (Within intervals.Day) moment) ∷ [])
 //! ```
 //!
-//! Uses: [`PacketValue`](crate::definitions::ether_pcap#def.PacketValue), [`Value`](#def.Members.Value), [`own_packet_values`](#def.own_packet_values), [`if_some`](#def.if_some), [`Within`](#def.Members.Value), [`intervals.Minute`](#def.Interval), [`intervals.Hour`](#def.Interval), [`intervals.Day`](#def.Interval)
+//! Uses: [`OriginValue`](#def.OriginValue), [`PacketValue`](crate::definitions::ether_pcap#def.PacketValue), [`Value`](#def.Members.Value), [`own_packet_values`](#def.own_packet_values), [`if_some`](#def.if_some), [`Within`](#def.Members.Value), [`intervals.Minute`](#def.Interval), [`intervals.Hour`](#def.Interval), [`intervals.Day`](#def.Interval)
 //!
 //! # Causes
 //!
@@ -776,7 +804,7 @@
 //! told_members h = members (section_rows (told_section h)) (told_values h)
 //! ```
 //!
-//! Uses: [`Told`](#def.Told), [`Member`](#def.Members.Member), [`members`](#def.members), [`section_rows`](crate::definitions::ether_fields#def.section_rows), [`told_section`](#def.told_section), [`told_values`](#def.told_values)
+//! Uses: [`Told`](#def.Told), [`Member`](#def.Member), [`members`](#def.members), [`section_rows`](crate::definitions::ether_fields#def.section_rows), [`told_section`](#def.told_section), [`told_values`](#def.told_values)
 //!
 //! <a id="def.protocol_word"></a>
 //!
@@ -956,7 +984,7 @@
 //! end_members end = members (section_rows (end_section end)) (end_values end)
 //! ```
 //!
-//! Uses: [`End`](#def.End), [`Member`](#def.Members.Member), [`members`](#def.members), [`section_rows`](crate::definitions::ether_fields#def.section_rows), [`end_section`](#def.end_section), [`end_values`](#def.end_values)
+//! Uses: [`End`](#def.End), [`Member`](#def.Member), [`members`](#def.members), [`section_rows`](crate::definitions::ether_fields#def.section_rows), [`end_section`](#def.end_section), [`end_values`](#def.end_values)
 //!
 //! # Spelling
 //!
@@ -1259,7 +1287,7 @@
 //! json_member m = quoted m.name ++ (codes ":" ++ json_value m.value)
 //! ```
 //!
-//! Uses: [`Member`](#def.Members.Member), [`quoted`](#def.quoted), [`json_value`](#def.json_value)
+//! Uses: [`Member`](#def.Member), [`quoted`](#def.quoted), [`json_value`](#def.json_value)
 //!
 //! <a id="def.json_members"></a>
 //!
@@ -1273,7 +1301,7 @@
 //! json_members (m ∷ ms) = json_member m ++ flat_map (λ n. codes "," ++ json_member n) ms
 //! ```
 //!
-//! Uses: [`Member`](#def.Members.Member), [`json_member`](#def.json_member)
+//! Uses: [`Member`](#def.Member), [`json_member`](#def.json_member)
 //!
 //! <a id="def.json_object"></a>
 //!
@@ -1284,7 +1312,7 @@
 //! json_object members = codes "{" ++ (json_members members ++ codes "}")
 //! ```
 //!
-//! Uses: [`Member`](#def.Members.Member), [`json_members`](#def.json_members)
+//! Uses: [`Member`](#def.Member), [`json_members`](#def.json_members)
 //!
 //! <a id="def.json_objects"></a>
 //!
@@ -1307,11 +1335,11 @@
 //! The members of the packet, and the name of its list of headers.
 //!
 //! ```text
-//! abbrev pub json_front : ℕ → PacketValue → Option Moment → List ℕ
-//! json_front number p moment = codes "{" ++ (json_members (packet_members number p moment) ++ codes ",\"headers\":[")
+//! abbrev pub json_front : OriginValue → PacketValue → Option Moment → List ℕ
+//! json_front origin p moment = codes "{" ++ (json_members (packet_members origin p moment) ++ codes ",\"headers\":[")
 //! ```
 //!
-//! Uses: [`PacketValue`](crate::definitions::ether_pcap#def.PacketValue), [`json_members`](#def.json_members), [`packet_members`](#def.packet_members)
+//! Uses: [`OriginValue`](#def.OriginValue), [`PacketValue`](crate::definitions::ether_pcap#def.PacketValue), [`json_members`](#def.json_members), [`packet_members`](#def.packet_members)
 //!
 //! <a id="def.json_end"></a>
 //!
@@ -1332,11 +1360,11 @@
 //! ## `json_line`
 //!
 //! ```text
-//! abbrev pub json_line : ℕ → PacketValue → Option Moment → List Told → End → List ℕ
-//! json_line number p moment headers end = json_front number p moment ++ (json_objects headers ++ json_end end)
+//! abbrev pub json_line : OriginValue → PacketValue → Option Moment → List Told → End → List ℕ
+//! json_line origin p moment headers end = json_front origin p moment ++ (json_objects headers ++ json_end end)
 //! ```
 //!
-//! Uses: [`PacketValue`](crate::definitions::ether_pcap#def.PacketValue), [`Told`](#def.Told), [`End`](#def.End), [`json_front`](#def.json_front), [`json_objects`](#def.json_objects), [`json_end`](#def.json_end)
+//! Uses: [`OriginValue`](#def.OriginValue), [`PacketValue`](crate::definitions::ether_pcap#def.PacketValue), [`Told`](#def.Told), [`End`](#def.End), [`json_front`](#def.json_front), [`json_objects`](#def.json_objects), [`json_end`](#def.json_end)
 //!
 //! # Brief
 //!
@@ -1906,7 +1934,7 @@
 //!   pub members : List Member
 //! ```
 //!
-//! Uses: [`Member`](#def.Members.Member)
+//! Uses: [`Member`](#def.Member)
 //!
 //! <a id="def.section"></a>
 //!
@@ -1917,7 +1945,7 @@
 //! section name members = record { name = name; members = members }
 //! ```
 //!
-//! Uses: [`Member`](#def.Members.Member), [`Section`](#def.Section)
+//! Uses: [`Member`](#def.Member), [`Section`](#def.Section)
 //!
 //! <a id="def.header_sections"></a>
 //!
@@ -1941,13 +1969,13 @@
 //! The packet, its headers, and how the walk through them ends.
 //!
 //! ```text
-//! abbrev pub sections : ℕ → PacketValue → Option Moment → List Told → End → List Section
-//! sections number p moment headers end =
-//!     section (codes "frame") (members frame_rows (packet_columns number p moment))
+//! abbrev pub sections : OriginValue → PacketValue → Option Moment → List Told → End → List Section
+//! sections origin p moment headers end =
+//!     section (codes "frame") (members frame_rows (packet_columns origin p moment))
 //!     ∷ (flat_map header_sections headers ++ (section (section_name (end_section end)) (end_members end) ∷ []))
 //! ```
 //!
-//! Uses: [`PacketValue`](crate::definitions::ether_pcap#def.PacketValue), [`Told`](#def.Told), [`End`](#def.End), [`Section`](#def.Section), [`section`](#def.section), [`members`](#def.members), [`frame_rows`](crate::definitions::ether_fields#def.frame_rows), [`packet_columns`](#def.packet_columns), [`header_sections`](#def.header_sections), [`section_name`](crate::definitions::ether_fields#def.section_name), [`end_section`](#def.end_section), [`end_members`](#def.end_members)
+//! Uses: [`OriginValue`](#def.OriginValue), [`PacketValue`](crate::definitions::ether_pcap#def.PacketValue), [`Told`](#def.Told), [`End`](#def.End), [`Section`](#def.Section), [`section`](#def.section), [`members`](#def.members), [`frame_rows`](crate::definitions::ether_fields#def.frame_rows), [`packet_columns`](#def.packet_columns), [`header_sections`](#def.header_sections), [`section_name`](crate::definitions::ether_fields#def.section_name), [`end_section`](#def.end_section), [`end_members`](#def.end_members)
 //!
 //! **A column**
 //!
@@ -1986,7 +2014,7 @@
 //! values_named name (m ∷ ms) = if bytes_eq m.name name then m.value ∷ values_named name ms else values_named name ms
 //! ```
 //!
-//! Uses: [`Member`](#def.Members.Member), [`Value`](#def.Members.Value)
+//! Uses: [`Member`](#def.Member), [`Value`](#def.Members.Value)
 //!
 //! <a id="def.values_in"></a>
 //!
@@ -2308,16 +2336,16 @@
 //! ## `format_text`
 //!
 //! ```text
-//! abbrev pub format_text : Format → ℕ → PacketValue → Option Moment → List Told → End → List ℕ
-//! format_text Json number p moment headers end = json_line number p moment headers end
-//! format_text Brief number p moment headers end = brief_line number p moment headers end
-//! format_text (Fields columns) number p moment headers end =
-//!     row_text (columns_view columns) (sections number p moment headers end)
-//! format_text (Csv columns) number p moment headers end =
-//!     csv_row (columns_view columns) (sections number p moment headers end)
+//! abbrev pub format_text : Format → OriginValue → PacketValue → Option Moment → List Told → End → List ℕ
+//! format_text Json origin p moment headers end = json_line origin p moment headers end
+//! format_text Brief origin p moment headers end = brief_line origin.number p moment headers end
+//! format_text (Fields columns) origin p moment headers end =
+//!     row_text (columns_view columns) (sections origin p moment headers end)
+//! format_text (Csv columns) origin p moment headers end =
+//!     csv_row (columns_view columns) (sections origin p moment headers end)
 //! ```
 //!
-//! Uses: [`PacketValue`](crate::definitions::ether_pcap#def.PacketValue), [`Told`](#def.Told), [`End`](#def.End), `Json` (`Format::Json`), [`json_line`](#def.json_line), `Brief` (`Format::Brief`), [`brief_line`](#def.brief_line), `Fields` (`Format::Fields`), [`row_text`](#def.row_text), [`columns_view`](#def.columns_view), [`sections`](#def.sections), `Csv` (`Format::Csv`), [`csv_row`](#def.csv_row)
+//! Uses: [`OriginValue`](#def.OriginValue), [`PacketValue`](crate::definitions::ether_pcap#def.PacketValue), [`Told`](#def.Told), [`End`](#def.End), `Json` (`Format::Json`), [`json_line`](#def.json_line), `Brief` (`Format::Brief`), [`brief_line`](#def.brief_line), `Fields` (`Format::Fields`), [`row_text`](#def.row_text), [`columns_view`](#def.columns_view), [`sections`](#def.sections), `Csv` (`Format::Csv`), [`csv_row`](#def.csv_row)
 //!
 //! <a id="def.format_heading"></a>
 //!
@@ -2339,20 +2367,20 @@
 //!
 //! ## `HasText`
 //!
-//! The text of a packet with a number, of what it tells; and whether no header is refused.
+//! The text of a packet of this origin, of what it tells; and whether no header is refused.
 //!
 //! ```text
-//! pub record HasText (format : Format) (limit : Option ℕ) (number : ℕ) (p : PacketValue) (text : List ℕ)
+//! pub record HasText (format : Format) (limit : Option ℕ) (origin : OriginValue) (p : PacketValue) (text : List ℕ)
 //!     (accepted : Bool) : Type 0 where
 //!   pub moment : Option Moment
 //!   pub is_moment : AreMoments p.time moment
 //!   pub headers : List Told
 //!   pub end : End
 //!   pub tells : Tells limit (length p.packet) (content_of p) headers end accepted
-//!   pub is_text : text ≡ format_text format number p moment headers end
+//!   pub is_text : text ≡ format_text format origin p moment headers end
 //! ```
 //!
-//! Uses: [`PacketValue`](crate::definitions::ether_pcap#def.PacketValue), [`AreMoments`](#def.AreMoments), [`Told`](#def.Told), [`End`](#def.End), [`Tells`](#def.Tells), [`content_of`](crate::definitions::ether_content#def.content_of), [`format_text`](#def.format_text)
+//! Uses: [`OriginValue`](#def.OriginValue), [`PacketValue`](crate::definitions::ether_pcap#def.PacketValue), [`AreMoments`](#def.AreMoments), [`Told`](#def.Told), [`End`](#def.End), [`Tells`](#def.Tells), [`content_of`](crate::definitions::ether_content#def.content_of), [`format_text`](#def.format_text)
 //!
 //! # Types
 //!

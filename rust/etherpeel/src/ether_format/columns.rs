@@ -46,8 +46,9 @@ static COMMON: [Column; 8] = [
 
 /// The columns of a row, 1 to 32.
 ///
-/// The name of a column is that of a section and that of one of its members in [`crate::ether_format::Format::Json`], with a dot
-/// between them: `frame.number`, `vlan.vid`. The sections are `frame`, the packet itself; `eth`, `sll`, `sll2`, `vlan`,
+/// The name of a column is that of a section and that of one of its fields, with a dot between them: `frame.number`,
+/// `vlan.vid`. A field is a member in [`crate::ether_format::Format::Json`], but for the minute, the hour and the day of a packet's
+/// time, which are columns alone. The sections are `frame`, the packet itself; `eth`, `sll`, `sll2`, `vlan`,
 /// `macsec` and `arp`, its headers; `headers`, the name and the place of each header; and how the walk through them
 /// ends, `rest` or `fault`.
 #[derive(Clone, Copy, PartialEq, Eq, Hash, Debug)]

@@ -5,22 +5,24 @@ use crate::ether_format::column::Column;
 use crate::ether_format::end::End;
 use crate::ether_format::found::Found;
 use crate::ether_format::gathered::{Gatherer, Headers};
+use crate::ether_format::origin::Origin;
 use crate::ether_format::row::{RowPacket, write_column};
 use crate::ether_format::spelling::write_column_value;
 use crate::ether_format::text::write_csv_text;
-use crate::ether_format::value::Value;
+use crate::ether_format::times::{write_time, write_time_interval};
+use crate::ether_format::value::{Shown, Value};
 use crate::ether_format::values::packet_value;
 use crate::ether_format::visit::{Visitor, visit};
 use crate::ether_fields::Section;
 use crate::ether_output::{OutputBuffer, Sink};
-use crate::ether_pcap::CapturedPacket;
+use crate::ether_pcap::{CapturedPacket, Timestamp};
 
 /// Writes the record of a packet, and returns whether no header of the packet is refused.
 #[inline(never)]
 pub(in crate::ether_format) fn write_csv_row<W: Sink>(
     columns: &Columns,
     limit: Option<usize>,
-    number: usize,
+    origin: &Origin<'_>,
     packet: &CapturedPacket<'_>,
     out: &mut OutputBuffer<'_, W>,
 ) -> bool {
@@ -28,7 +30,7 @@ pub(in crate::ether_format) fn write_csv_row<W: Sink>(
     let mut gatherer = Gatherer::new();
     let end = visit(packet, limit, &mut gatherer, &mut headers);
     let row = RowPacket {
-        number,
+        origin,
         packet,
         limit,
     };
@@ -77,17 +79,39 @@ fn write_field<W: Sink>(
 ) {
     if column.section == Section::Frame {
         let index = usize::from(column.index);
-        write_only_field(packet_value(row.number, row.packet, index), out);
+        write_shown_if(
+            packet_value(row.origin, row.packet, index),
+            row.packet.time,
+            out,
+        );
     } else {
         write_values_field(column, row, headers, gatherer, end, out);
     }
 }
 
-/// Writes the only value of a column, if there is one.
+/// Writes what a packet itself has in a field, if it has that.
 #[inline]
-fn write_only_field<W: Sink>(value: Option<Value<'_>>, out: &mut OutputBuffer<'_, W>) {
-    if let Some(value) = value {
-        write_value_field(&value, out);
+fn write_shown_if<W: Sink>(
+    shown: Option<Shown<'_>>,
+    time: Option<Timestamp>,
+    out: &mut OutputBuffer<'_, W>,
+) {
+    if let Some(shown) = shown {
+        write_shown_field(shown, time, out);
+    }
+}
+
+/// Writes what a packet itself has in a field. No time has a byte that asks for double quotes.
+#[inline]
+fn write_shown_field<W: Sink>(
+    shown: Shown<'_>,
+    time: Option<Timestamp>,
+    out: &mut OutputBuffer<'_, W>,
+) {
+    match shown {
+        Shown::Time => write_time(time, out),
+        Shown::Within(interval) => write_time_interval(interval, time, out),
+        Shown::Value(value) => write_value_field(&value, out),
     }
 }
 

@@ -4,8 +4,7 @@ use crate::ether_format::end::End;
 use crate::ether_format::found::Found;
 use crate::ether_format::found_header::FoundHeader;
 use crate::ether_format::members;
-use crate::ether_format::spelling::write_json_value;
-use crate::ether_format::value::Member;
+use crate::ether_format::origin::Origin;
 use crate::ether_output::{OutputBuffer, Sink};
 use crate::ether_pcap::CapturedPacket;
 use crate::ether_peel::PeelUnit;
@@ -13,11 +12,11 @@ use crate::ether_peel::PeelUnit;
 /// Writes the object of a packet up to its list of headers: its members, and the name of that list.
 #[inline]
 pub(in crate::ether_format) fn write_json_front<W: Sink>(
-    number: usize,
+    origin: &Origin<'_>,
     packet: &CapturedPacket<'_>,
     out: &mut OutputBuffer<'_, W>,
 ) {
-    write_eight(&members::packet(number, packet), out);
+    members::write_packet_members(origin, packet, out);
     out.append(b",\"headers\":[");
 }
 
@@ -29,7 +28,7 @@ pub(in crate::ether_format) fn write_json_header<W: Sink>(
     out: &mut OutputBuffer<'_, W>,
 ) {
     write_comma(is_first, out);
-    write_five(&members::placed(found.section, found.place), out);
+    members::write_placed(found.section, found.place, out);
     write_own(&found.header, out);
     out.append(b"}");
 }
@@ -39,8 +38,8 @@ pub(in crate::ether_format) fn write_json_header<W: Sink>(
 fn write_own<W: Sink>(header: &FoundHeader<'_>, out: &mut OutputBuffer<'_, W>) {
     match header {
         FoundHeader::Walked(unit) => write_unit(unit, out),
-        FoundHeader::Cooked(header) => write_members(&members::cooked(header), out),
-        FoundHeader::CookedV2(packet) => write_members(&members::linux_sll2(packet), out),
+        FoundHeader::Cooked(header) => members::write_cooked(header, out),
+        FoundHeader::CookedV2(packet) => members::write_linux_sll2(packet, out),
     }
 }
 
@@ -48,11 +47,11 @@ fn write_own<W: Sink>(header: &FoundHeader<'_>, out: &mut OutputBuffer<'_, W>) {
 #[inline(always)]
 fn write_unit<W: Sink>(unit: &PeelUnit<'_>, out: &mut OutputBuffer<'_, W>) {
     match unit {
-        PeelUnit::Ethernet2(slice) => write_four(&members::ethernet2(slice), out),
-        PeelUnit::LinuxSll(slice) => write_members(&members::linux_sll(slice), out),
-        PeelUnit::Vlan(slice) => write_four(&members::vlan(slice), out),
-        PeelUnit::Macsec(slice) => write_members(&members::macsec(&slice.header), out),
-        PeelUnit::Arp(slice) => write_nine(&members::arp(slice), out),
+        PeelUnit::Ethernet2(slice) => members::write_ethernet2(slice, out),
+        PeelUnit::LinuxSll(slice) => members::write_linux_sll(slice, out),
+        PeelUnit::Vlan(slice) => members::write_vlan(slice, out),
+        PeelUnit::Macsec(slice) => members::write_macsec(&slice.header, out),
+        PeelUnit::Arp(slice) => members::write_arp(slice, out),
     }
 }
 
@@ -62,24 +61,20 @@ pub(in crate::ether_format) fn write_json_end<W: Sink>(end: &End, out: &mut Outp
     match end {
         End::Rest(start, end, kind) => {
             out.append(b"],\"rest\":");
-            write_four(&members::rest(*start, *end, kind), out);
+            members::write_rest(*start, *end, kind, out);
             out.append(b"}}\n");
         }
-        End::Skipped(len) => write_last(b"],\"rest\":", &members::skipped(*len), out),
-        End::Fault(start, closed, cause) => write_last(
-            b"],\"fault\":",
-            &members::fault(*start, *closed, cause),
-            out,
-        ),
+        End::Skipped(len) => {
+            out.append(b"],\"rest\":");
+            members::write_skipped(*len, out);
+            out.append(b"}}\n");
+        }
+        End::Fault(start, closed, cause) => {
+            out.append(b"],\"fault\":");
+            members::write_fault(*start, *closed, cause, out);
+            out.append(b"}}\n");
+        }
     }
-}
-
-/// Writes the last member of the object of a packet, an object of these members, after the text of its name.
-#[inline(always)]
-fn write_last<W: Sink>(name: &[u8], members: &[Member<'_>], out: &mut OutputBuffer<'_, W>) {
-    out.append(name);
-    write_members(members, out);
-    out.append(b"}}\n");
 }
 
 /// Writes a comma, but not before the first of several.
@@ -88,65 +83,4 @@ pub(in crate::ether_format) fn write_comma<W: Sink>(is_first: bool, out: &mut Ou
     if !is_first {
         out.append(b",");
     }
-}
-
-/// Writes members, each with its name.
-#[inline(never)]
-fn write_members<W: Sink>(members: &[Member<'_>], out: &mut OutputBuffer<'_, W>) {
-    for member in members {
-        write_member(member, out);
-    }
-}
-
-/// Writes a member with its name.
-#[inline(always)]
-fn write_member<W: Sink>(member: &Member<'_>, out: &mut OutputBuffer<'_, W>) {
-    out.append(member.key.as_bytes());
-    write_json_value(&member.value, out);
-}
-
-/// Writes four members. The compiler then knows each name, and which kind of value has it.
-#[inline(always)]
-fn write_four<W: Sink>(members: &[Member<'_>; 4], out: &mut OutputBuffer<'_, W>) {
-    write_member(&members[0], out);
-    write_member(&members[1], out);
-    write_member(&members[2], out);
-    write_member(&members[3], out);
-}
-
-/// .. five members.
-#[inline(always)]
-fn write_five<W: Sink>(members: &[Member<'_>; 5], out: &mut OutputBuffer<'_, W>) {
-    write_member(&members[0], out);
-    write_member(&members[1], out);
-    write_member(&members[2], out);
-    write_member(&members[3], out);
-    write_member(&members[4], out);
-}
-
-/// .. eight members.
-#[inline(always)]
-fn write_eight<W: Sink>(members: &[Member<'_>; 8], out: &mut OutputBuffer<'_, W>) {
-    write_member(&members[0], out);
-    write_member(&members[1], out);
-    write_member(&members[2], out);
-    write_member(&members[3], out);
-    write_member(&members[4], out);
-    write_member(&members[5], out);
-    write_member(&members[6], out);
-    write_member(&members[7], out);
-}
-
-/// .. nine members.
-#[inline(always)]
-fn write_nine<W: Sink>(members: &[Member<'_>; 9], out: &mut OutputBuffer<'_, W>) {
-    write_member(&members[0], out);
-    write_member(&members[1], out);
-    write_member(&members[2], out);
-    write_member(&members[3], out);
-    write_member(&members[4], out);
-    write_member(&members[5], out);
-    write_member(&members[6], out);
-    write_member(&members[7], out);
-    write_member(&members[8], out);
 }

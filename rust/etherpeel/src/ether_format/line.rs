@@ -4,6 +4,7 @@ use crate::ether_format::brief::{write_brief_end, write_brief_front, write_brief
 use crate::ether_format::end::End;
 use crate::ether_format::found::Found;
 use crate::ether_format::json::{write_json_end, write_json_front, write_json_header};
+use crate::ether_format::origin::Origin;
 use crate::ether_format::values::moment_if;
 use crate::ether_format::visit::{Visitor, visit};
 use crate::ether_output::{OutputBuffer, Sink};
@@ -37,11 +38,11 @@ impl<'a, 'b, W: Sink> Visitor<'a, OutputBuffer<'b, W>> for LineHeaders {
 pub(in crate::ether_format) fn write_line<W: Sink>(
     line: Line,
     limit: Option<usize>,
-    number: usize,
+    origin: &Origin<'_>,
     packet: &CapturedPacket<'_>,
     out: &mut OutputBuffer<'_, W>,
 ) -> bool {
-    write_front(line, number, packet, out);
+    write_front(line, origin, packet, out);
     let mut headers = LineHeaders {
         line,
         is_first: true,
@@ -56,13 +57,13 @@ pub(in crate::ether_format) fn write_line<W: Sink>(
 #[inline(always)]
 fn write_front<W: Sink>(
     line: Line,
-    number: usize,
+    origin: &Origin<'_>,
     packet: &CapturedPacket<'_>,
     out: &mut OutputBuffer<'_, W>,
 ) {
     match line {
-        Line::Json => write_json_front(number, packet, out),
-        Line::Brief => write_brief_front(number, moment_if(packet.time), out),
+        Line::Json => write_json_front(origin, packet, out),
+        Line::Brief => write_brief_front(origin.number, moment_if(packet.time), out),
     }
 }
 

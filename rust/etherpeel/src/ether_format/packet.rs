@@ -1,20 +1,20 @@
 //! Writes a captured packet in a format.
 
-use crate::ether_format::Format;
 use crate::ether_format::csv::write_csv_row;
 use crate::ether_format::line::{Line, write_line};
 use crate::ether_format::row::write_row;
+use crate::ether_format::{Format, Origin};
 use crate::ether_output::{OutputBuffer, Sink};
 use crate::ether_pcap::CapturedPacket;
 
-/// Writes a packet with its number in a format, and returns whether no header of it is refused.
+/// Writes a packet of this origin in a format, and returns whether no header of it is refused.
 ///
 /// With a limit, at most that many VLAN tags and SecTags are read.
 ///
 /// ```
 /// use etherpeel::ether_pcap::{CapturedPacket, LinkType, Timestamp};
 /// use etherpeel::ether_output::OutputBuffer;
-/// use etherpeel::ether_format::{Format, write_packet};
+/// use etherpeel::ether_format::{Format, Origin, write_packet};
 /// use arrayvec::ArrayVec;
 ///
 /// # #[cfg(feature = "std")]
@@ -30,14 +30,18 @@ use crate::ether_pcap::CapturedPacket;
 ///     fcs_len: None,
 ///     packet: &[0xFF, 0xFF, 0xFF, 0xFF, 0xFF, 0xFF, 2, 0, 0, 0, 0, 1, 0x08, 0x00],
 /// };
+/// let origin = Origin {
+///     file: Some(b"a.pcap"),
+///     number: 1,
+/// };
 /// let mut written = ArrayVec::<u8, 512>::new();
 /// let mut out = OutputBuffer::new(&mut written);
-/// assert!(write_packet(&Format::Json, None, 1, &packet, &mut out));
+/// assert!(write_packet(&Format::Json, None, &origin, &packet, &mut out));
 /// assert_eq!(out.flush(), Ok(()));
 /// assert_eq!(
 ///     written.as_slice(),
 ///     b"{\"number\":1,\"time\":\"2023-11-14T22:13:20.000001000Z\",\"link\":1,\"captured\":14,\"original\":60,\"interface\":null,\"direction\":null,\
-/// \"comment\":null,\"headers\":[{\"header\":\"eth\",\"start\":0,\"end\":14,\"payload_end\":14,\"closed\":false,\"dst\":\"ff:ff:ff:ff:ff:ff\",\"src\":\"02:00:00:00:00:01\",\"type\":2048,\
+/// \"comment\":null,\"file\":\"a.pcap\",\"headers\":[{\"header\":\"eth\",\"start\":0,\"end\":14,\"payload_end\":14,\"closed\":false,\"dst\":\"ff:ff:ff:ff:ff:ff\",\"src\":\"02:00:00:00:00:01\",\"type\":2048,\
 /// \"fcs\":null}],\"rest\":{\"start\":14,\"end\":14,\"kind\":\"ether_type\",\"type\":2048}}\n".as_slice()
 /// );
 /// # }
@@ -46,12 +50,13 @@ use crate::ether_pcap::CapturedPacket;
 /// <details><summary>Contract</summary>
 ///
 /// ```text
-/// ensures { TakesAnswer W.contents W.can_fail (HasText format.now limit number (captured_packet_view packet.now))
-///     out.old out.new result }
+/// ensures { TakesAnswer W.contents W.can_fail
+///     (HasText format.now limit (origin_view origin.now) (captured_packet_view packet.now)) out.old out.new result }
 /// ```
 ///
 /// Words: [`TakesAnswer`](crate::definitions::ether_output#def.TakesAnswer),
 /// [`HasText`](crate::definitions::ether_format#def.HasText),
+/// [`origin_view`](crate::definitions::ether_format#def.origin_view),
 /// [`captured_packet_view`](crate::definitions::ether_pcap#def.captured_packet_view).
 /// [Notation](crate::definitions::notation)
 ///
@@ -60,14 +65,14 @@ use crate::ether_pcap::CapturedPacket;
 pub fn write_packet<W: Sink>(
     format: &Format,
     limit: Option<usize>,
-    number: usize,
+    origin: &Origin<'_>,
     packet: &CapturedPacket<'_>,
     out: &mut OutputBuffer<'_, W>,
 ) -> bool {
     match format {
-        Format::Json => write_line(Line::Json, limit, number, packet, out),
-        Format::Brief => write_line(Line::Brief, limit, number, packet, out),
-        Format::Fields(columns) => write_row(columns, limit, number, packet, out),
-        Format::Csv(columns) => write_csv_row(columns, limit, number, packet, out),
+        Format::Json => write_line(Line::Json, limit, origin, packet, out),
+        Format::Brief => write_line(Line::Brief, limit, origin, packet, out),
+        Format::Fields(columns) => write_row(columns, limit, origin, packet, out),
+        Format::Csv(columns) => write_csv_row(columns, limit, origin, packet, out),
     }
 }

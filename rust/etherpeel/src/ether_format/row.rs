@@ -7,18 +7,20 @@ use crate::ether_format::end_values::end_value;
 use crate::ether_format::found::Found;
 use crate::ether_format::gathered::{Gatherer, Headers, ROOM};
 use crate::ether_format::json::write_comma;
+use crate::ether_format::origin::Origin;
 use crate::ether_format::spelling::write_column_value;
-use crate::ether_format::value::Value;
+use crate::ether_format::times::{write_time, write_time_interval};
+use crate::ether_format::value::{Shown, Value};
 use crate::ether_format::values::packet_value;
 use crate::ether_format::visit::{Visitor, visit};
 use crate::ether_fields::Section;
 use crate::ether_output::{OutputBuffer, Sink};
-use crate::ether_pcap::CapturedPacket;
+use crate::ether_pcap::{CapturedPacket, Timestamp};
 
 /// A packet of a row, and the most VLAN tags and SecTags that are read of it.
 #[derive(Clone, Copy)]
 pub(in crate::ether_format) struct RowPacket<'a> {
-    pub(in crate::ether_format) number: usize,
+    pub(in crate::ether_format) origin: &'a Origin<'a>,
     pub(in crate::ether_format) packet: &'a CapturedPacket<'a>,
     pub(in crate::ether_format) limit: Option<usize>,
 }
@@ -30,7 +32,7 @@ pub(in crate::ether_format) struct RowPacket<'a> {
 pub(in crate::ether_format) fn write_row<W: Sink>(
     columns: &Columns,
     limit: Option<usize>,
-    number: usize,
+    origin: &Origin<'_>,
     packet: &CapturedPacket<'_>,
     out: &mut OutputBuffer<'_, W>,
 ) -> bool {
@@ -38,7 +40,7 @@ pub(in crate::ether_format) fn write_row<W: Sink>(
     let mut gatherer = Gatherer::new();
     let end = visit(packet, limit, &mut gatherer, &mut headers);
     let row = RowPacket {
-        number,
+        origin,
         packet,
         limit,
     };
@@ -87,11 +89,30 @@ pub(in crate::ether_format) fn write_column<W: Sink>(
 ) {
     if column.section == Section::Frame {
         let index = usize::from(column.index);
-        write_only(packet_value(row.number, row.packet, index), out);
+        write_shown(
+            packet_value(row.origin, row.packet, index),
+            row.packet.time,
+            out,
+        );
     } else if is_end(column.section) {
         write_in_end(column, end, out);
     } else {
         write_in_all(column, row, headers, gatherer, out);
+    }
+}
+
+/// Writes what a packet itself has in a field, if it has that.
+#[inline(always)]
+fn write_shown<W: Sink>(
+    shown: Option<Shown<'_>>,
+    time: Option<Timestamp>,
+    out: &mut OutputBuffer<'_, W>,
+) {
+    match &shown {
+        Some(Shown::Time) => write_time(time, out),
+        Some(Shown::Within(interval)) => write_time_interval(*interval, time, out),
+        Some(Shown::Value(value)) => write_column_value(value, out),
+        None => {}
     }
 }
 

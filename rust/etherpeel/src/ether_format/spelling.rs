@@ -23,8 +23,6 @@ pub(in crate::ether_format) fn write_json_value<W: Sink>(value: &Value<'_>, out:
         Value::Dotted(bytes) => write_quoted_dotted(bytes, out),
         Value::Word(word) => write_quoted_word(word, out),
         Value::Text(text) => write_json_text(text, out),
-        Value::Time(moment) => write_json_moment(moment, out),
-        Value::Within(interval, moment) => write_quoted_interval(*interval, moment, out),
     }
 }
 
@@ -44,8 +42,6 @@ pub(in crate::ether_format) fn write_column_value<W: Sink>(value: &Value<'_>, ou
         Value::Dotted(bytes) => write_dotted(bytes, out),
         Value::Word(word) => out.append(word.as_bytes()),
         Value::Text(text) => write_row_text(text, out),
-        Value::Time(moment) => write_moment(moment, out),
-        Value::Within(interval, moment) => write_interval(*interval, moment, out),
     }
 }
 
@@ -87,7 +83,7 @@ fn write_quoted_dotted<W: Sink>(bytes: &[u8], out: &mut OutputBuffer<'_, W>) {
 
 /// Writes a moment as a value of JSON: its date between quotation marks, or the number of its seconds.
 #[inline(never)]
-fn write_json_moment<W: Sink>(moment: &Moment, out: &mut OutputBuffer<'_, W>) {
+pub(in crate::ether_format) fn write_json_moment<W: Sink>(moment: &Moment, out: &mut OutputBuffer<'_, W>) {
     if has_date(moment) {
         write_quoted_date(moment, out);
     } else {
@@ -183,7 +179,7 @@ pub(in crate::ether_format) fn write_moment<W: Sink>(moment: &Moment, out: &mut 
 
 /// Writes an interval of a moment between quotation marks.
 #[inline(never)]
-fn write_quoted_interval<W: Sink>(
+pub(in crate::ether_format) fn write_quoted_interval<W: Sink>(
     interval: Interval,
     moment: &Moment,
     out: &mut OutputBuffer<'_, W>,
@@ -195,7 +191,11 @@ fn write_quoted_interval<W: Sink>(
 
 /// Writes the date of a moment up to the minute, the hour or the day. A moment without a date has none.
 #[inline(never)]
-fn write_interval<W: Sink>(interval: Interval, moment: &Moment, out: &mut OutputBuffer<'_, W>) {
+pub(in crate::ether_format) fn write_interval<W: Sink>(
+    interval: Interval,
+    moment: &Moment,
+    out: &mut OutputBuffer<'_, W>,
+) {
     if has_date(moment) {
         write_up_to(interval, moment, out);
     }

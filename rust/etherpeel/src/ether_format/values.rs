@@ -3,9 +3,10 @@
 use crate::ether_format::Moment;
 use crate::ether_format::calendar::moment_of;
 use crate::ether_format::interval::Interval;
+use crate::ether_format::origin::Origin;
 use crate::ether_format::place::Place;
 use crate::ether_format::spelling::first_of;
-use crate::ether_format::value::Value;
+use crate::ether_format::value::{Shown, Value};
 use crate::ether_content::CookedHeader;
 use crate::ether_fields::Section;
 use crate::ether_pcap::{CapturedPacket, Direction, Timestamp};
@@ -16,25 +17,26 @@ use crate::{
     SingleVlanSlice,
 };
 
-/// The value of a field of a packet itself. Its date is computed only if it is that value.
+/// What a packet itself has in a field.
 #[inline(always)]
 pub(in crate::ether_format) fn packet_value<'a>(
-    number: usize,
+    origin: &Origin<'a>,
     packet: &CapturedPacket<'a>,
     index: usize,
-) -> Option<Value<'a>> {
+) -> Option<Shown<'a>> {
     match index {
-        0 => Some(Value::Number(number as u64)),
-        1 => Some(time_value(moment_if(packet.time))),
-        2 => Some(Value::Number(u64::from(packet.link_type.0))),
-        3 => Some(Value::Number(packet.packet.len() as u64)),
-        4 => Some(Value::Number(u64::from(packet.original_len))),
-        5 => Some(interface_value(packet.interface)),
-        6 => Some(direction_value(packet.direction)),
-        7 => Some(text_value(packet.comment)),
-        8 => Some(interval_value(Interval::Minute, moment_if(packet.time))),
-        9 => Some(interval_value(Interval::Hour, moment_if(packet.time))),
-        10 => Some(interval_value(Interval::Day, moment_if(packet.time))),
+        0 => Some(Shown::Value(Value::Number(origin.number as u64))),
+        1 => Some(Shown::Time),
+        2 => Some(Shown::Value(Value::Number(u64::from(packet.link_type.0)))),
+        3 => Some(Shown::Value(Value::Number(packet.packet.len() as u64))),
+        4 => Some(Shown::Value(Value::Number(u64::from(packet.original_len)))),
+        5 => Some(Shown::Value(interface_value(packet.interface))),
+        6 => Some(Shown::Value(direction_value(packet.direction))),
+        7 => Some(Shown::Value(text_value(packet.comment))),
+        8 => Some(Shown::Value(text_value(origin.file))),
+        9 => Some(Shown::Within(Interval::Minute)),
+        10 => Some(Shown::Within(Interval::Hour)),
+        11 => Some(Shown::Within(Interval::Day)),
         _ => None,
     }
 }
@@ -67,30 +69,12 @@ fn text_value<'a>(text: Option<&'a [u8]>) -> Value<'a> {
     }
 }
 
-/// The value of an interval of a time.
-#[inline]
-fn interval_value<'a>(interval: Interval, moment: Option<Moment>) -> Value<'a> {
-    match moment {
-        Some(moment) => Value::Within(interval, moment),
-        None => Value::Nothing,
-    }
-}
-
 /// The moment of a time, if there is one.
 #[inline]
 pub(in crate::ether_format) fn moment_if(time: Option<Timestamp>) -> Option<Moment> {
     match time {
         Some(time) => Some(moment_of(time)),
         None => None,
-    }
-}
-
-/// The value of a time.
-#[inline]
-fn time_value<'a>(moment: Option<Moment>) -> Value<'a> {
-    match moment {
-        Some(moment) => Value::Time(moment),
-        None => Value::Nothing,
     }
 }
 

@@ -1,4 +1,5 @@
 use Rattle.std.proofs.Common.{◌++◌, ℕ, List, length, ap, subst, ◌∙◌, arith}
+use Rattle.std.specs.Prelude.{None}
 use Rattle.ether_pcap.specs.Capture.{PacketValue}
 use Rattle.ether_format.specs.Texts.{HasText}
 use Rattle.ether_c.specs.Calls.{PutsBytes}
@@ -13,7 +14,8 @@ returns-in-Ok c =
       line = answer.text;
       accepted = c.write_packet-is_accepted.result;
       is_line =
-          subst (λ (p : PacketValue). HasText c.args.format.now c.args.limit c.args.number p answer.text
+          subst (λ (p : PacketValue). HasText c.args.format.now c.args.limit
+          (record { file = None; number = c.args.number }) p answer.text
           c.write_packet-is_accepted.result)
           c.to_packet.ensures answer.answers;
       put = λ le. subst (λ (l : List ℕ). PutsBytes l c.args.target.now c.put_bytes.new.target c.put_bytes.result.0

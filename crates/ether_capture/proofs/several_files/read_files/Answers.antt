@@ -3,9 +3,9 @@ use Rattle.std.specs.Int.NonZero.{non_zero_usize_get}
 use Rattle.std.specs.Option.{option_map, is_some}
 use Rattle.ether_text.proofs.ArgumentsLemmas.{items_end}
 use Rattle.ether_capture.specs.SeveralFiles.{IsAfter, ReadsFiles, no_more, enough, next, next_task}
-use Rattle.ether_capture.specs.Options.{listing_view, names_input}
+use Rattle.ether_capture.specs.Options.{listing_view, named, names_input}
 use Rattle.ether_capture.specs.World.{names, reads, streams}
-use Rattle.ether_stream.specs.Task.{Lines}
+use Rattle.ether_stream.specs.Task.{Lines, lines_view}
 use Rattle.ether_capture.proofs.SeveralFilesLemmas.{file_names, names_in, settled}
 use Rattle.ether_capture.proofs.several_files.read_files.Goals as goal
 
@@ -26,12 +26,14 @@ loop-name-preserved g c =
     let cons : names_in c.loop-name.files ≡ word ∷ behind = ap (map (λ s. s.now)) c.in-Some.ensures.items in
     let going : at.left ≢ Some 0 = λ e. let t = c.is_done.ensures.1 e in absurd cc in
     let left : option_map non_zero_usize_get c.count-task.result ≡ at.left = c.count-task.ensures going in
+    let file : option_map (λ n. n.now) c.name_bytes.result ≡ named word = c.name_bytes.ensures ∙ c.named.ensures in
+    let lines = ap (λ (f : Option (List ℕ)). record listing.options { file = f; before = Some at.packets }) file in
     let same : record {
       select = c.loop-name.task.selection;
       count = option_map non_zero_usize_get c.count-task.result;
-      form = Lines c.after.result;
-    } ≡ next_task listing at =
-    (λ i. record { select = so_far.selection i; count = left i; form = Lines (c.after.ensures i) }) in
+      form = Lines (lines_view c.after.result);
+    } ≡ next_task listing at word =
+    (λ i. record { select = so_far.selection i; count = left i; form = Lines ((c.after.ensures ∙ lines) i) }) in
     let after : IsAfter at c.in_ok-end.counts c.in_ok-end.end c.with-tally.result = record {
       packets = c.with-tally.ensures.packets;
       skipped = c.with-tally.ensures.skipped;

@@ -8,6 +8,7 @@ use Rattle.ether_format.specs.Columns.{column_view, sections as sections_told}
 use Rattle.ether_format.specs.Counted.{only_text}
 use Rattle.ether_format.specs.Csv.{csv_field, csv_text}
 use Rattle.ether_format.specs.Members.{Value, packet_columns}
+use Rattle.ether_format.specs.Origins.{origin_view}
 use Rattle.ether_format.specs.Values.{value_at}
 use Rattle.ether_format.proofs.CsvLemmas.{frame_field}
 use Rattle.ether_format.proofs.csv.write_field.Goals as goal
@@ -15,14 +16,14 @@ use Rattle.ether_format.proofs.csv.write_field.Goals as goal
 pub returns-then-eq : goal.returns-then-eq
 returns-then-eq g c moment told end accepted is tells =
     let p = captured_packet_view c.args.row.now.packet.now in
-    let number = c.args.row.now.number in
+    let origin = origin_view c.args.row.now.origin.now in
     let same : c.args.column.section ≡ parts.Frame = search rules in
-    let value = c.packet_value.ensures moment is
-    ∙ ap (value_at (packet_columns number p moment)) c.from-index.ensures in
+    let value = c.packet_value.ensures moment
+    ∙ ap (value_at (packet_columns origin p moment)) c.from-index.ensures in
     Takes-same
     (ap (λ (v : Option Value). csv_field (only_text v)) value
-    ∙ frame_field number p moment told end c.args.column.index
+    ∙ frame_field origin p moment told end c.args.column.index
     ∙ ap (λ (k : Section). csv_field
     (csv_text (column_view (record { section = k; index = c.args.column.index }))
-    (sections_told number p moment told end))) (sym same))
-    c.write_only_field.ensures
+    (sections_told origin p moment told end))) (sym same))
+    (c.write_shown_if.ensures moment is)

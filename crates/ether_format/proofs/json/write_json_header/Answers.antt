@@ -1,13 +1,12 @@
 use Rattle.std.proofs.Common.{◌++◌, ap}
 use Rattle.ether_output.proofs.OutputBufferLemmas.{Takes-then, Takes-same}
-use Rattle.ether_format.specs.Values.{comma_if, keyed_text}
-use Rattle.std.specs.List.{flat_map}
+use Rattle.ether_format.specs.Values.{comma_if}
 use Rattle.ether_format.proofs.JsonLemmas.{found_object}
 use Rattle.ether_format.proofs.json.write_json_header.Goals as goal
 
 pub returns : goal.returns
 returns g c =
     let f = c.args.found.now in
-    let placed = Takes-same (ap (flat_map keyed_text) c.placed.ensures) c.write_five.ensures in
     Takes-same (ap (λ l. comma_if c.args.is_first ++ l) (found_object f f.own))
-    (Takes-then c.write_comma.ensures (Takes-then placed (Takes-then c.write_own.ensures c.append.ensures)))
+    (Takes-then c.write_comma.ensures
+    (Takes-then c.write_placed.ensures (Takes-then c.write_own.ensures c.append.ensures)))

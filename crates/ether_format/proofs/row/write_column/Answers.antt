@@ -7,6 +7,7 @@ use Rattle.ether_output.proofs.OutputBufferLemmas.{Takes-same}
 use Rattle.ether_format.specs.declared.end.End.{End}
 use Rattle.ether_format.specs.Columns.{column_view}
 use Rattle.ether_format.specs.Members.{Value, packet_columns}
+use Rattle.ether_format.specs.Origins.{origin_view}
 use Rattle.ether_format.specs.Values.{column_on, end_shown, if_any, is_end_section, value_at}
 use Rattle.ether_format.proofs.OneText.{one_told}
 use Rattle.ether_format.proofs.RowLemmas.{end_only, frame_only, headers_only}
@@ -15,14 +16,14 @@ use Rattle.ether_format.proofs.row.write_column.Goals as goal
 pub returns-then-eq : goal.returns-then-eq
 returns-then-eq g c moment told end accepted is tells =
     let p = captured_packet_view c.args.row.now.packet.now in
-    let number = c.args.row.now.number in
+    let origin = origin_view c.args.row.now.origin.now in
     let same : c.args.column.section ≡ parts.Frame = search rules in
-    let value = c.packet_value.ensures moment is
-    ∙ ap (value_at (packet_columns number p moment)) c.from-index.ensures in
+    let value = c.packet_value.ensures moment
+    ∙ ap (value_at (packet_columns origin p moment)) c.from-index.ensures in
     Takes-same
     (ap (λ (v : Option Value). column_on true (if_any v)) value
-    ∙ frame_only c.args.column.section c.args.column.index same number p moment told end)
-    c.write_only.ensures
+    ∙ frame_only c.args.column.section c.args.column.index same origin p moment told end)
+    (c.write_shown.ensures moment is)
 
 pub returns-then-is_end : goal.returns-then-is_end
 returns-then-is_end g c moment told end accepted is tells =
@@ -34,7 +35,7 @@ returns-then-is_end g c moment told end accepted is tells =
     has.2 tells).1 in
     Takes-same
     (ap (λ (e : End). column_on true (end_shown (column_view c.args.column) e)) same
-    ∙ end_only c.args.column.section c.args.column.index last row.number p moment told end)
+    ∙ end_only c.args.column.section c.args.column.index last (origin_view row.origin.now) p moment told end)
     c.write_in_end.ensures
 
 pub returns-else-is_end : goal.returns-else-is_end
@@ -43,5 +44,6 @@ returns-else-is_end g c moment told end accepted is tells =
     let p = captured_packet_view row.packet.now in
     let other : c.args.column.section ≡ parts.Frame → ⊥ = search rules in
     let none : is_end_section c.args.column.section ≡ false = sym c.is_end.ensures ∙ c.if-is_end.false in
-    Takes-same (headers_only c.args.column.section c.args.column.index other none row.number p moment told end)
+    Takes-same
+    (headers_only c.args.column.section c.args.column.index other none (origin_view row.origin.now) p moment told end)
     (c.write_in_all.ensures moment told end accepted is tells)

@@ -4,7 +4,7 @@ use crate::draw::Draw;
 use crate::text::{Text, WithText};
 use arrayvec::ArrayVec;
 use etherpeel::ether_fields::{Field, Kind, Section, name_of};
-use etherpeel::ether_format::{Columns, Format, nine_digits, split_at, write_json_text, write_packet};
+use etherpeel::ether_format::{Columns, Format, Origin, nine_digits, split_at, write_json_text, write_packet};
 use etherpeel::ether_output::{
     OutputBuffer, digit_pair, eight_digits, hex_type, source_of, write_decimal, write_number,
 };
@@ -142,8 +142,12 @@ fn packets(draw: &mut Draw, name: &[u8], text: &mut Text) -> fmt::Result {
         } else {
             None
         };
+        let origin = Origin {
+            file: if draw.flag() { Some(name) } else { None },
+            number,
+        };
         match packet {
-            Ok(packet) => text.add(&write_packet(&format, limit, number, &packet, &mut out))?,
+            Ok(packet) => text.add(&write_packet(&format, limit, &origin, &packet, &mut out))?,
             Err(fault) => text.add(&WithText(&fault))?,
         }
         number += 1;

@@ -4,7 +4,7 @@ use crate::ether_fields::field::Field;
 use crate::ether_fields::kind::Kind;
 
 /// The fields of the section `frame`, in order.
-pub static FRAME: [Field; 11] = [
+pub static FRAME: [Field; 12] = [
     Field {
         name: "number",
         key: "{\"number\":",
@@ -101,6 +101,19 @@ pub static FRAME: [Field; 11] = [
         key: ",\"comment\":",
         column: "frame.comment",
         title: "Comment",
+        abbreviation: "",
+        kind: Kind::Bytes,
+        extent: Extent::Computed,
+        number: 0,
+        symbol: "",
+        is_member: true,
+        is_column: true,
+    },
+    Field {
+        name: "file",
+        key: ",\"file\":",
+        column: "frame.file",
+        title: "File",
         abbreviation: "",
         kind: Kind::Bytes,
         extent: Extent::Computed,
