@@ -13,3 +13,7 @@ pub mod LineViews
 pub mod Captures
 pub mod Program
 pub mod Messages
+pub mod PacketJson
+pub mod PacketData
+pub mod Laws
+pub mod FrameLaws

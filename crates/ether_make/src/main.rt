@@ -10,6 +10,7 @@ pub mod capture;
 pub mod field_bits;
 pub mod frame;
 pub mod header;
+pub mod laws;
 pub mod lines;
 pub mod objects;
 pub mod program;
