@@ -18,6 +18,7 @@ import sys
 from dataclasses import dataclass
 
 from programs import count
+from sent_frames import sent_cases
 
 
 @dataclass
@@ -436,7 +437,7 @@ def main():
     capture = given.capture or os.path.join(os.path.dirname(given.program), "..", "..", "ether_capture", "out", "ether_capture")
     cases = [*frame_cases(given.program), *memory_cases(given.program), *padded_cases(given.program), *refused_cases(given.program), *word_cases(given.program),
              *scapy_cases(given.program), *tshark_cases(given.program),
-             *printed_cases(given.program, capture)]
+             *printed_cases(given.program, capture), *sent_cases(given.program)]
     return count((name, got, wanted) for name, got, wanted in cases if given.word in name)
 
 
