@@ -76,7 +76,7 @@ module _ (P : List ℕ → Type 0) (constant : (xs : List ℕ) → are_ascii xs 
   above true e h = constant (codes "\\ufffd") refl
   above false e h = h refl
 
-  -- what holds of escapes, and of a byte that stands for itself
+  -- what holds of escapes, and of a byte that means itself
   by_byte : (32 ≤ b → (nat_lt 127 b && not utf8) ≡ false → P (b ∷ [])) → P (json_byte utf8 b)
   by_byte h = go (cases_eq b 34) (cases_eq b 92) (cases_lt b 32)
     where

@@ -23,7 +23,7 @@ IsRemade (Walked place (headers.Macsec t) None) = ⊤
 IsRemade (Walked place (headers.Arp a) None) = ⊤
 IsRemade _ = ⊥
 
--- whether a header is a SecTag, of which two bits are reserved
+-- whether a header is a SecTag, which has two reserved bits
 abbrev pub is_sec_tag : Told → Bool
 is_sec_tag (Walked place (headers.Macsec t) fcs) = true
 is_sec_tag _ = false
