@@ -220,7 +220,9 @@ def schema(text, blocks):
         if is_header:
             given = told["$defs"].get(name, {"properties": {}})["properties"]
             rows = [row for row in blocks[block][1] if row.is_member]
-            values = {row.name: schema_value(row) or given[row.name] for row in rows}
+            # reserved bits are a member if they are not 0 and all bytes are asked for
+            rare = {row.name: {**schema_value(row), "minimum": 1} for row in blocks[block][1] if row.name == "reserved"}
+            values = {row.name: schema_value(row) or given[row.name] for row in rows} | rare
             told["$defs"][name] = {"required": [row.name for row in rows], "properties": {"header": {"const": name}, **values}}
     return laid_out(told, 0, 0) + "\n"
 

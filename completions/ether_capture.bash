@@ -19,7 +19,7 @@ _ether_capture() {
 
     case "${cmd}" in
         ether_capture)
-            opts="-r -c -w -h -V --progress --plain --header --stats --merge --write --cut-to-headers --pop-vlan --jobs --select --undecided --limit --format --fields --by --status-on-fault --push-vlan --set-vlan --help --version [file]..."
+            opts="-r -c -w -h -V --progress --plain --bytes --header --stats --merge --write --cut-to-headers --pop-vlan --jobs --select --undecided --limit --format --fields --by --status-on-fault --push-vlan --set-vlan --help --version [file]..."
             if [[ ${cur} == -* || ${COMP_CWORD} -eq 1 ]] ; then
                 COMPREPLY=( $(compgen -W "${opts}" -- "${cur}") )
                 return 0

@@ -13,6 +13,7 @@ complete -c ether_capture -l push-vlan -d 'with --write, put a VLAN tag after th
 complete -c ether_capture -l set-vlan -d 'with --write, give the outermost VLAN tag with identifier A identifier B' -r -f
 complete -c ether_capture -l progress -d 'show on standard error how many bytes are read, and how fast'
 complete -c ether_capture -l plain -d 'leave out the lines of packets and the totals'
+complete -c ether_capture -l bytes -d 'with --format json, also print the bytes after the headers of a packet, and reserved bits that are not 0'
 complete -c ether_capture -l header -d 'with --fields, print a line of the names first'
 complete -c ether_capture -l stats -d 'count packets and bytes by the values of COLUMNS, or without --fields of headers, VLANs, types, faults and ARP senders'
 complete -c ether_capture -l merge -d 'add up counts that --stats has printed, which are read from standard input'

@@ -30,7 +30,7 @@ from counts import examples as counts
 from formats import examples
 from programs import count, on_a_full_disk, run, run_apart, run_until_a_fault, without_memory
 
-USAGE = ("usage: ether_capture [[--plain | --format lines|brief|json | --fields COLUMNS [--format csv] [--header] | --stats [--fields COLUMNS | --by COLUMNS] [--format json]] [--limit N] [--status-on-fault yes|no] | --merge [--format json] | --write [-w COPY] [--cut-to-headers | --pop-vlan | --push-vlan TPID:ID | --set-vlan A:B]] "
+USAGE = ("usage: ether_capture [[--plain | --format lines|brief|json [--bytes] | --fields COLUMNS [--format csv] [--header] | --stats [--fields COLUMNS | --by COLUMNS] [--format json]] [--limit N] [--status-on-fault yes|no] | --merge [--format json] | --write [-w COPY] [--cut-to-headers | --pop-vlan | --push-vlan TPID:ID | --set-vlan A:B]] "
          "[--select EXPR [--undecided keep|drop]] [-c N] [--progress] [--jobs N] [-r FILE | FILE..]\n")
 
 
@@ -379,6 +379,21 @@ WRONG = [
     ("counts as CSV", ["--stats", "--format", "csv"], CLASH),
     ("counts of columns as CSV", ["--stats", "--format", "csv", "--fields", "vlan.vid"], CLASH),
     ("columns together as CSV", ["--stats", "--format", "csv", "--by", "vlan.vid"], CLASH),
+    ("bytes of lines", ["--bytes"], lacking("--bytes", "--format json")),
+    ("bytes of lines that are named", ["--bytes", "--format", "lines"], lacking("--bytes", "--format json")),
+    ("bytes for the eye", ["--bytes", "--format", "brief"], lacking("--bytes", "--format json")),
+    ("bytes of columns", ["--bytes", "--fields", "vlan.vid"], lacking("--bytes", "--format json")),
+    ("bytes as CSV", ["--bytes", "--format", "csv", "--fields", "vlan.vid"], lacking("--bytes", "--format json")),
+    ("bytes of a copy", ["--bytes", "--write"], lacking("--bytes", "--format json")),
+    ("bytes of counts", ["--bytes", "--stats"], lacking("--bytes", "--format json")),
+    ("bytes of columns that are not counted", ["--bytes", "--by", "vlan.vid"], lacking("--bytes", "--format json")),
+    ("bytes and columns of JSON", ["--bytes", "--format", "json", "--fields", "vlan.vid"], CLASH),
+    ("bytes of JSON and a copy", ["--bytes", "--format", "json", "--write"], CLASH),
+    ("plain bytes", ["--bytes", "--format", "json", "--plain"], CLASH),
+    ("bytes of counts as JSON", ["--bytes", "--format", "json", "--stats"], CLASH),
+    ("bytes of sums of counts", ["--bytes", "--format", "json", "--merge"], CLASH),
+    ("bytes twice", ["--bytes", "--bytes", "--format", "json"], TWICE),
+    ("bytes with a value", ["--bytes=5", "--format", "json"], TWICE),
     ("plain columns", ["--fields", "vlan.vid", "--plain"], CLASH),
     ("columns and a copy", ["--fields", "vlan.vid", "--write"], CLASH),
     ("plain counts", ["--stats", "--plain"], CLASH),

@@ -137,6 +137,27 @@ PACKETS = [
     ]),
 ]
 
+# The bytes of each packet after its last header: payload, padding and check sequence, or a header that is refused.
+AFTER_HEADERS = {
+    "a classic capture": ["00", "4500001c00010000400100000a0900020a0900010800f7fd00010001"],
+    "check sequences": ["0102e9c0cdc8", "0102e9c0"],
+    "sections": ["", "45", "", "45"],
+    "ARP": ["", "00"],
+    "SecTags": ["11223344556677", "aabb", "8000000000010800", "0001000000010800"],
+    "cooked capture v1": [""],
+    "LLC in a cooked capture": ["424203"],
+    "netlink": ["aa"],
+    "a packet type without a meaning": ["00080001000602000000000100000800"],
+    "a header of cooked capture v1 that is cut": ["000400010006020000000001000008"],
+    "cooked capture v2": ["", "45", "810000000000"],
+}
+# Reserved bits: two before the short length of a SecTag (IEEE 802.1AE, 9.7), each of them and both; two bytes of LINKTYPE_LINUX_SLL2.
+RESERVED = [
+    (classic(*(joined("ffffffffffff 020000000001 88e5 01", sl, "00000007 0800 45") for sl in ("43", "83", "c3", "03"))), "macsec", [1, 2, 3, None]),
+    (classic()[:20] + joined("00000114") + b"".join(joined("6553f100 00000000 00000015 00000015 0800", bits, "00000003 0001 02 06 0200000000010000 45")
+                                                    for bits in ("0001", "abcd", "0000")), "sll2", [1, 0xABCD, None]),
+]
+
 # The same packets as lines for the eye, in which a person reads what the members say.
 BRIEF_LINES = {
     "a classic capture": [
@@ -333,6 +354,19 @@ def members(program, words, capture, name):
     return [it[name] for it in objects(program, words, capture)[0]]
 
 
+def with_bytes(told, after):
+    """A packet with the bytes after its headers at the end of its object, which have the check sequence."""
+    name = "rest" if "rest" in told else "fault"
+    headers = [{**it, "fcs": None} if "fcs" in it else it for it in told["headers"]]
+    return {**told, "headers": headers, name: {**told[name], "bytes": after}}
+
+
+def reserved(program, words, capture, name):
+    """The reserved bits of the headers of a name, the last member of each, or None."""
+    headers = [it for packet in objects(program, words, capture)[0] for it in packet["headers"] if it["header"] == name]
+    return [dict([*it.items()][-1:]).get("reserved") for it in headers]
+
+
 def found_in_lines(program, words, capture, form):
     """What the first group of the form is, in each line that has it."""
     text, _ = run(program, words, capture)
@@ -351,6 +385,11 @@ def examples(program):
         lines = "".join(json.dumps(it, separators=(",", ":")) + "\n" for it in packets)
         yield f"{name} as JSON, byte for byte", partial(run, program, JSON, capture), (lines, status)
         yield f"{name} for the eye", partial(run, program, BRIEF, capture), ("".join(f"{it}\n" for it in BRIEF_LINES[name]), status)
+        told = "".join(json.dumps(with_bytes(*it), separators=(",", ":")) + "\n" for it in zip(packets, AFTER_HEADERS[name], strict=True))
+        yield f"{name} as JSON with bytes", partial(run, program, [*JSON, "--bytes"], capture), (told, status)
+    for capture, name, bits in RESERVED:
+        yield f"reserved bits of {name}", partial(reserved, program, [*JSON, "--bytes"], capture, name), bits
+        yield f"reserved bits of {name} without bytes", partial(reserved, program, JSON, capture, name), [None] * len(bits)
     for seconds, date in MOMENTS:
         capture = classic() + seconds.to_bytes(4, "big") + joined("0000002a", "00000001" * 2, "00")
         yield f"the date of {seconds}", partial(members, program, JSON, capture, "time"), [f"{date}.000042000Z"]
@@ -508,10 +547,10 @@ def schema(program):
         print("left out: JSON with its schema, since jsonschema is not there")
         return []
     captures = [it[1] for it in PACKETS] + [LATE, classic(*drawn(500))]
-    packets = sum(len(it[3]) for it in PACKETS) + 502
+    packets = (sum(len(it[3]) for it in PACKETS) + 502) * 2 + sum(len(it[2]) for it in RESERVED)
     with tempfile.NamedTemporaryFile() as file:
-        for capture in captures:
-            file.write(subprocess.run([program, *JSON], input=capture, capture_output=True, check=False).stdout)
+        for capture, words in [*((it, JSON) for it in captures), *((it, [*JSON, "--bytes"]) for it in [*captures, *(it[0] for it in RESERVED)])]:
+            file.write(subprocess.run([program, *words], input=capture, capture_output=True, check=False).stdout)
         file.flush()
         path = os.path.join(os.path.dirname(os.path.dirname(os.path.abspath(__file__))), "docs", "packet.schema.json")
         done = subprocess.run([PYTHON, "-c", SCHEMA, path, file.name], capture_output=True, text=True, check=False)

@@ -154,6 +154,7 @@ FAULTS = [
     Fault(PROGRESS, "a line that ends twice", "self.is_shown.replace(false)", "self.is_shown.get()"),
     Fault(OPTIONS, "progress by another option", '"progress"', '"plain"', 'is_shown: matches.get_flag("progress")'),
     Fault(OPTIONS, "no limit", 'text_of(matches, words, "limit")', "None"),
+    Fault(OPTIONS, "--bytes is not seen", 'matches.get_flag("bytes")', "false"),
     Fault(OPTIONS, "--merge is not seen", 'matches.get_flag("merge")', "false"),
     Fault(SLOTS, "no row waits", "(0..SLOTS)", "(0..0)", why="each row is counted at once then, which is only slower"),
     Fault(TABLE, "more packets are not added", "*count = count.with(more)", "*count = *count"),

@@ -14,7 +14,7 @@ use Rattle.ether_filter.specs.declared.filter_error.FilterError.{FilterError}
 use Rattle.ether_content.specs.Editing.{EditValue, CutToHeaders, PopVlan, PushVlan, SetVlan}
 use Rattle.ether_content.specs.EditingViews.{edit_view}
 use Rattle.ether_format.specs.declared.format.Format.{Format}
-use Rattle.ether_format.specs.declared.format.Format.TheVariants.{Brief, Csv, Fields, Json}
+use Rattle.ether_format.specs.declared.format.Format.TheVariants.{Brief, Csv, Fields, Json, JsonBytes}
 use Rattle.ether_format.specs.Columns.{ColumnValue, columns_view, common_columns, original_column}
 use Rattle.ether_format.specs.declared.columns.Columns.{Columns}
 use Rattle.ether_stream.specs.declared.option_values.FormatName.{FormatName}
@@ -128,6 +128,7 @@ pub record AskedValue : Type 0 where
   pub format : Option FormatName
   pub fields : Option Columns
   pub by : Option Columns
+  pub bytes : Bool
   pub header : Bool
   pub stats : Bool
   pub merge : Bool
@@ -177,6 +178,7 @@ pub record Asks (rows : List Row) (a : AskedValue) : Type 0 where
   pub format : IsFormat (first_of (codes "format") rows) a.format
   pub fields : IsIfAny AreFields (first_of (codes "fields") rows) a.fields
   pub by : IsIfAny AreFields (first_of (codes "by") rows) a.by
+  pub bytes : a.bytes ≡ is_set (codes "bytes") rows
   pub header : a.header ≡ is_set (codes "header") rows
   pub stats : a.stats ≡ is_set (codes "stats") rows
   pub merge : a.merge ≡ is_set (codes "merge") rows
@@ -209,17 +211,17 @@ abbrev pub is_csv : Option FormatName → Bool
 is_csv (Some names.Csv) = true
 is_csv name = false
 
--- a format of this name that has no columns
-abbrev pub format_named : Option FormatName → Option Format
-format_named (Some names.Json) = Some Json
-format_named (Some names.Brief) = Some Brief
-format_named name = None
+-- a format of this name that has no columns; objects of JSON may have all bytes of a packet
+abbrev pub format_named : Option FormatName → (bytes : Bool) → Option Format
+format_named (Some names.Json) bytes = Some (if bytes then JsonBytes else Json)
+format_named (Some names.Brief) bytes = Some Brief
+format_named name bytes = None
 
 -- the format that is asked for: columns are one, as CSV or with tabs
 abbrev pub format_asked : AskedValue → Option Format
 format_asked a =
     option_map_or (λ columns. Some (if is_csv a.format then Csv columns else Fields columns)) (columns_asked a)
-    (format_named a.format)
+    (format_named a.format a.bytes)
 
 -- counts are lines of JSON, or of fields
 abbrev pub statistics_format_of : Option FormatName → StatisticsFormat
@@ -255,12 +257,13 @@ is_json name = false
 abbrev pub clashes_with_by : AskedValue → Bool
 clashes_with_by a = is_some a.by && is_some a.fields
 
--- columns are neither brief nor JSON; counts have no heading and are neither brief nor CSV, and their columns are 32 at
--- most with the length of the packet
+-- columns are neither brief nor JSON; counts have no heading and no bytes, are neither brief nor CSV, and their columns
+-- are 32 at most with the length of the packet
 abbrev pub clashes_in_columns : AskedValue → Bool
 clashes_in_columns a =
     if a.stats
-    then a.header || (not (is_some a.counted) || (is_brief a.format || (is_csv a.format || clashes_with_by a)))
+    then a.header
+    || (a.bytes || (not (is_some a.counted) || (is_brief a.format || (is_csv a.format || clashes_with_by a))))
     else (is_brief a.format || is_json a.format) && is_some a.fields
 
 -- no copy is plain, or has a limit or a format; lines alone are plain
@@ -279,7 +282,7 @@ makes_packets a = makes_copy a || (a.plain || (a.stats || (is_some a.limit || is
 
 -- .. in a form that sums of counts do not have, or their faults count
 abbrev pub forms_packets : AskedValue → Bool
-forms_packets a = is_some a.status_on_fault || (is_brief a.format || is_csv a.format)
+forms_packets a = is_some a.status_on_fault || (a.bytes || (is_brief a.format || is_csv a.format))
 
 -- sums of counts are made of no capture
 abbrev pub clashes_with_merge : AskedValue → Bool
@@ -295,15 +298,21 @@ edit_option PopVlan = dependent.PopVlan
 edit_option (PushVlan tpid id) = dependent.PushVlan
 edit_option (SetVlan from to) = dependent.SetVlan
 
+-- an edit is there without a copy
+abbrev pub lacking_copy : AskedValue → Option DependentOption
+lacking_copy a = if makes_copy a then None else option_map edit_option a.edit
+
 -- an option is there without the one that it needs: no packet is undecided without a filter, names and CSV are those
--- of columns, columns are counted together only if some are, and only a copy is edited
+-- of columns, objects of JSON alone have bytes, columns are counted together only if some are, and only a copy is
+-- edited
 abbrev pub lacking : AskedValue → Option DependentOption
 lacking a =
     if is_some a.undecided && not (is_some a.text) then Some dependent.Undecided
     else (if a.header && (not (is_some a.fields) && not a.stats) then Some dependent.Header
     else (if is_csv a.format && (not (is_some a.fields) && not a.stats) then Some dependent.Csv
+    else (if a.bytes && not (is_json a.format) then Some dependent.Bytes
     else (if is_some a.by && not a.stats then Some dependent.By
-    else (if makes_copy a then None else option_map edit_option a.edit))))
+    else lacking_copy a))))
 
 -- the first name
 abbrev pub first_name : List Text → Option Text
@@ -500,6 +509,7 @@ asked_view asked = record {
   format = asked.format;
   fields = asked.fields;
   by = asked.by;
+  bytes = asked.has_bytes;
   header = asked.has_header;
   stats = asked.is_counted;
   merge = asked.is_merge;

@@ -67,7 +67,7 @@ pub(crate) fn all_options() -> &'static [OptionRow<&'static str>]
 }
 
 /// The table of options, in the order of the help.
-pub static OPTIONS: [OptionRow<&str>; 23] = [
+pub static OPTIONS: [OptionRow<&str>; 24] = [
     OptionRow {
         name: "read",
         spelling: Spelling::Letter('r'),
@@ -130,6 +130,13 @@ pub static OPTIONS: [OptionRow<&str>; 23] = [
         value: Some("lines|brief|json|csv"),
         group: "Lines",
         help: "print lines as ever; or each packet on a line of its own, for the eye, as an object of JSON or, with --fields, as CSV, without totals",
+    },
+    OptionRow {
+        name: "bytes",
+        spelling: Spelling::Name,
+        value: None,
+        group: "Lines",
+        help: "with --format json, also print the bytes after the headers of a packet, and reserved bits that are not 0",
     },
     OptionRow {
         name: "fields",

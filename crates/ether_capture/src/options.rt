@@ -136,6 +136,7 @@ impl<'a> Asked<'a> {
             is_plain: is_set(matches, "plain"),
             is_write: is_set(matches, "write"),
             is_shown: is_set(matches, "progress"),
+            has_bytes: is_set(matches, "bytes"),
             has_header: is_set(matches, "header"),
             is_counted,
             is_merge: is_set(matches, "merge"),

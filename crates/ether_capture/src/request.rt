@@ -5,7 +5,7 @@ ghost use Rattle.std.specs.Option.{is_some, option_map};
 ghost use Rattle.ether_pcap.specs.CopiedUnits.{copy_mode_view};
 ghost use Rattle.ether_stream.specs.Copying.{growth_if};
 ghost use Rattle.ether_stream.specs.Task.{form_view, lines_view};
-ghost use Rattle.ether_capture.specs.Options.{Fits, IsFaultOf, IsRequestOf, RefusesAsked, are_several, asked_view, edit_option, excuses, first_columns, is_json, lacking, names_input, names_input_twice, surplus, clashes, clashes_in_columns, clashes_with_by, columns_asked, format_named, is_brief, is_csv, statistics_asked, form_of, format_asked, heading_of, mode_of, options_of, request_view, input_of, makes_copy, named, output_of, selection_of, chooses_packets, clashes_with_merge, clashes_with_copy, forms_packets, makes_packets};
+ghost use Rattle.ether_capture.specs.Options.{Fits, IsFaultOf, IsRequestOf, RefusesAsked, are_several, asked_view, edit_option, excuses, first_columns, is_json, lacking, lacking_copy, names_input, names_input_twice, surplus, clashes, clashes_in_columns, clashes_with_by, columns_asked, format_named, is_brief, is_csv, statistics_asked, form_of, format_asked, heading_of, mode_of, options_of, request_view, input_of, makes_copy, named, output_of, selection_of, chooses_packets, clashes_with_merge, clashes_with_copy, forms_packets, makes_packets};
 
 use crate::heading::{Heading, line_of, statistics_format_of, statistics_of};
 use crate::statistics_format::{Counting, StatisticsFormat};
@@ -96,6 +96,7 @@ pub(crate) struct Asked<'a> {
     pub(crate) is_plain: bool,
     pub(crate) is_write: bool,
     pub(crate) is_shown: bool,
+    pub(crate) has_bytes: bool,
     pub(crate) has_header: bool,
     pub(crate) is_counted: bool,
     pub(crate) is_merge: bool,
@@ -164,9 +165,19 @@ impl<'a> Asked<'a> {
         if self.is_csv() && self.fields.is_none() && !self.is_counted {
             return Some(DependentOption::Csv);
         }
+        if self.has_bytes && !self.is_json() {
+            return Some(DependentOption::Bytes);
+        }
         if self.by.is_some() && !self.is_counted {
             return Some(DependentOption::By);
         }
+        self.lacking_copy()
+    }
+
+    /// The option of an edit that is there without a copy.
+    fn lacking_copy(&self) -> Option<DependentOption>
+        ensures { result ≡ lacking_copy (asked_view self.now) }
+    {
         if self.is_copy() {
             return None;
         }
@@ -234,7 +245,7 @@ impl<'a> Asked<'a> {
     fn forms_packets(&self) -> bool
         ensures { result ≡ forms_packets (asked_view self.now) }
     {
-        self.status_on_fault.is_some() || self.is_brief() || self.is_csv()
+        self.status_on_fault.is_some() || self.has_bytes || self.is_brief() || self.is_csv()
     }
 
     /// Tests that there is an option of columns that does not go with the others.
@@ -243,6 +254,7 @@ impl<'a> Asked<'a> {
     {
         if self.is_counted {
             return self.has_header
+                || self.has_bytes
                 || self.counted.is_none()
                 || self.is_brief()
                 || self.is_csv()
@@ -303,7 +315,7 @@ impl<'a> Asked<'a> {
         match self.columns() {
             Some(columns) if self.is_csv() => Some(Format::Csv(columns)),
             Some(columns) => Some(Format::Fields(columns)),
-            None => format_named(self.format),
+            None => format_named(self.format, self.has_bytes),
         }
     }
 
@@ -498,11 +510,12 @@ pub(crate) fn first_of(by: Option<Columns>, fields: Option<Columns>) -> Option<C
     }
 }
 
-/// The format of this name, unless it has columns.
-fn format_named(name: Option<FormatName>) -> Option<Format>
-    ensures { result ≡ format_named name }
+/// The format of this name, unless it has columns; objects of JSON with all bytes of a packet if `has_bytes`.
+fn format_named(name: Option<FormatName>, has_bytes: bool) -> Option<Format>
+    ensures { result ≡ format_named name has_bytes }
 {
     match name {
+        Some(FormatName::Json) if has_bytes => Some(Format::JsonBytes),
         Some(FormatName::Json) => Some(Format::Json),
         Some(FormatName::Brief) => Some(Format::Brief),
         Some(FormatName::Csv) | None => None,

@@ -3,6 +3,7 @@ pub mod CalendarLemmas
 pub mod ColumnLemmas
 pub mod ListLemmas
 pub mod JsonLemmas
+pub mod JsonBytesLemmas
 pub mod Names
 pub mod OneMoment
 pub mod OneText

@@ -22,19 +22,25 @@ json_members (m ∷ ms) = json_member m ++ flat_map (λ n. codes "," ++ json_mem
 unfoldable pub json_object : List Member → List ℕ
 json_object members = codes "{" ++ (json_members members ++ codes "}")
 
--- objects with a comma between two
+-- objects with a comma between two, each with the members that a header has
+abbrev pub objects_of : (members : Told → List Member) → List Told → List ℕ
+objects_of members [] = []
+objects_of members (h ∷ hs) = json_object (members h) ++ flat_map (λ k. codes "," ++ json_object (members k)) hs
+
 abbrev pub json_objects : List Told → List ℕ
-json_objects [] = []
-json_objects (h ∷ hs) = json_object (told_members h) ++ flat_map (λ k. codes "," ++ json_object (told_members k)) hs
+json_objects headers = objects_of told_members headers
 
 -- the members of the packet, and the name of its list of headers
 abbrev pub json_front : OriginValue → PacketValue → Option Moment → List ℕ
 json_front origin p moment = codes "{" ++ (json_members (packet_members origin p moment) ++ codes ",\"headers\":[")
 
--- the end of that list, and how the walk ends, under its name
+-- the end of that list, and an object with these members under the name of how the walk ends
+abbrev pub json_end_of : End → List Member → List ℕ
+json_end_of end members =
+    codes "]," ++ (quoted (section_name (end_section end)) ++ (codes ":" ++ (json_object members ++ codes "}\n")))
+
 abbrev pub json_end : End → List ℕ
-json_end end =
-    codes "]," ++ (quoted (section_name (end_section end)) ++ (codes ":" ++ (json_object (end_members end) ++ codes "}\n")))
+json_end end = json_end_of end (end_members end)
 
 abbrev pub json_line : OriginValue → PacketValue → Option Moment → List Told → End → List ℕ
 json_line origin p moment headers end = json_front origin p moment ++ (json_objects headers ++ json_end end)

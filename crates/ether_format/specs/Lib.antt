@@ -5,6 +5,7 @@ pub mod Causes
 pub mod Told
 pub mod Spelling
 pub mod Json
+pub mod JsonBytes
 pub mod Brief
 pub mod Splits
 pub mod Columns
@@ -18,6 +19,7 @@ pub mod FoundHeaders
 pub mod Found
 pub mod Visits
 pub mod Lines
+pub mod JsonBytesLines
 pub mod GatheredSections
 pub mod Gathered
 pub mod Counted

@@ -11,8 +11,10 @@ use Rattle.ether_format.specs.declared.moment.Moment.{Moment}
 use Rattle.ether_format.specs.declared.line.LineHeaders.{LineHeaders}
 use Rattle.ether_format.specs.Brief.{brief_cut, brief_end, brief_front, brief_line, brief_told}
 use Rattle.ether_format.specs.Calendar.{AreMoments}
-use Rattle.ether_format.specs.Json.{json_end, json_front, json_line, json_object}
-use Rattle.ether_format.specs.Told.{Told, Tells, told_members}
+use Rattle.ether_format.specs.Json.{json_end, json_front, json_line, json_members, json_object}
+use Rattle.ether_fields.specs.Fields.{section_name}
+use Rattle.ether_format.specs.Spelling.{quoted}
+use Rattle.ether_format.specs.Told.{Told, Tells, end_members, end_section, told_members}
 use Rattle.ether_format.specs.Values.{comma_if}
 use Rattle.ether_format.specs.Origins.{OriginValue}
 
@@ -42,6 +44,11 @@ tail_text Brief p = brief_cut p ++ codes "\n"
 abbrev pub line_text : Line → OriginValue → PacketValue → Option Moment → List Told → End → List ℕ
 line_text Json origin p moment headers end = json_line origin p moment headers end
 line_text Brief origin p moment headers end = brief_line origin.number p moment headers end
+
+-- the end of the list of headers, and the members of how the walk ends, in an object without its end
+abbrev pub json_end_front : End → List ℕ
+json_end_front end =
+    codes "]," ++ (quoted (section_name (end_section end)) ++ (codes ":" ++ (codes "{" ++ json_members (end_members end))))
 
 -- ---- what is written
 

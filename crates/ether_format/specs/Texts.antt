@@ -4,11 +4,12 @@ use Rattle.ether_pcap.specs.Capture.{PacketValue}
 use Rattle.ether_content.specs.Content.{content_of}
 use Rattle.ether_format.specs.declared.moment.Moment.{Moment}
 use Rattle.ether_format.specs.declared.format.Format.{Format}
-use Rattle.ether_format.specs.declared.format.Format.TheVariants.{Json, Brief, Fields, Csv}
+use Rattle.ether_format.specs.declared.format.Format.TheVariants.{Json, JsonBytes, Brief, Fields, Csv}
 use Rattle.ether_format.specs.Calendar.{AreMoments}
 use Rattle.ether_format.specs.declared.end.End.{End}
 use Rattle.ether_format.specs.Told.{Told, Tells}
 use Rattle.ether_format.specs.Json.{json_line}
+use Rattle.ether_format.specs.JsonBytes.{json_bytes_line}
 use Rattle.ether_format.specs.Brief.{brief_line}
 use Rattle.ether_format.specs.Columns.{columns_view, heading_text, row_text, sections}
 use Rattle.ether_format.specs.Csv.{csv_heading, csv_row}
@@ -16,6 +17,7 @@ use Rattle.ether_format.specs.Origins.{OriginValue}
 
 abbrev pub format_text : Format → OriginValue → PacketValue → Option Moment → List Told → End → List ℕ
 format_text Json origin p moment headers end = json_line origin p moment headers end
+format_text JsonBytes origin p moment headers end = json_bytes_line origin p moment headers end
 format_text Brief origin p moment headers end = brief_line origin.number p moment headers end
 format_text (Fields columns) origin p moment headers end =
     row_text (columns_view columns) (sections origin p moment headers end)
@@ -25,6 +27,7 @@ format_text (Csv columns) origin p moment headers end =
 -- the line of the names of columns
 abbrev pub format_heading : Format → List ℕ
 format_heading Json = []
+format_heading JsonBytes = []
 format_heading Brief = []
 format_heading (Fields columns) = heading_text (columns_view columns)
 format_heading (Csv columns) = csv_heading (columns_view columns)

@@ -1,5 +1,6 @@
 //! How the walk through a packet ends.
 ghost use Rattle.std.specs.Prelude.{◌≡◌};
+ghost use Rattle.ether_format.specs.JsonBytes.{headers_end};
 ghost use Rattle.ether_format.specs.Told.{end_section, is_end_accepted};
 
 use crate::cause::Cause;
@@ -23,6 +24,16 @@ impl End {
         ensures { result ≡ is_end_accepted self.now }
     {
         !matches!(self, End::Fault(_, _, _))
+    }
+
+    /// The offset of the first byte after the last header that is found.
+    pub(crate) fn headers_end(&self) -> usize
+        ensures { result ≡ headers_end self.now }
+    {
+        match self {
+            End::Rest(start, _, _) | End::Fault(start, _, _) => *start,
+            End::Skipped(_) => 0,
+        }
     }
 
     /// Its section.

@@ -6,6 +6,7 @@ ghost use Rattle.ether_pcap.specs.CaptureViews.{captured_packet_view};
 ghost use Rattle.ether_format.specs.Found.{found_told};
 ghost use Rattle.ether_format.specs.FoundHeaders.{found_keyed};
 ghost use Rattle.ether_format.specs.Json.{json_end, json_front, json_object};
+ghost use Rattle.ether_format.specs.Lines.{json_end_front};
 ghost use Rattle.ether_format.specs.Origins.{origin_view};
 ghost use Rattle.ether_format.specs.Told.{told_members};
 ghost use Rattle.ether_format.specs.Values.{TakesTimed, comma_if, keyed_text, unit_keyed};
@@ -50,7 +51,7 @@ pub(crate) fn write_json_header<W: Sink>(
 
 /// Writes the members of a header after its name and its place.
 #[inline(always)]
-fn write_own<W: Sink>(header: &FoundHeader<'_>, out: &mut OutputBuffer<'_, W>)
+pub(crate) fn write_own<W: Sink>(header: &FoundHeader<'_>, out: &mut OutputBuffer<'_, W>)
     ensures { Takes W.contents W.can_fail out.old (flat_map keyed_text (found_keyed header.now)) out.new }
 {
     match header {
@@ -62,7 +63,7 @@ fn write_own<W: Sink>(header: &FoundHeader<'_>, out: &mut OutputBuffer<'_, W>)
 
 /// Writes the members of a header of the walk after its name and its place.
 #[inline(always)]
-fn write_unit<W: Sink>(unit: &PeelUnit<'_>, out: &mut OutputBuffer<'_, W>)
+pub(crate) fn write_unit<W: Sink>(unit: &PeelUnit<'_>, out: &mut OutputBuffer<'_, W>)
     ensures { Takes W.contents W.can_fail out.old (flat_map keyed_text (unit_keyed unit.now)) out.new }
 {
     match unit {
@@ -78,21 +79,27 @@ fn write_unit<W: Sink>(unit: &PeelUnit<'_>, out: &mut OutputBuffer<'_, W>)
 pub(crate) fn write_json_end<W: Sink>(end: &End, out: &mut OutputBuffer<'_, W>)
     ensures { Takes W.contents W.can_fail out.old (json_end end.now) out.new }
 {
+    write_end_front(end, out);
+    out.append(b"}}\n");
+}
+
+/// .. up to the last member of how the walk ends.
+#[inline(always)]
+pub(crate) fn write_end_front<W: Sink>(end: &End, out: &mut OutputBuffer<'_, W>)
+    ensures { Takes W.contents W.can_fail out.old (json_end_front end.now) out.new }
+{
     match end {
         End::Rest(start, end, kind) => {
             out.append(b"],\"rest\":");
             members::write_rest(*start, *end, kind, out);
-            out.append(b"}}\n");
         }
         End::Skipped(len) => {
             out.append(b"],\"rest\":");
             members::write_skipped(*len, out);
-            out.append(b"}}\n");
         }
         End::Fault(start, closed, cause) => {
             out.append(b"],\"fault\":");
             members::write_fault(*start, *closed, cause, out);
-            out.append(b"}}\n");
         }
     }
 }

@@ -16,6 +16,7 @@ mod found_header;
 mod gathered;
 mod interval;
 mod json;
+mod json_bytes;
 pub mod laws;
 mod line;
 mod members;

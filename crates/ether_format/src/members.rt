@@ -1,5 +1,5 @@
 //! Writes the members of each header and of what else a packet tells, as an object has them.
-ghost use Rattle.std.specs.Prelude.{codes};
+ghost use Rattle.std.specs.Prelude.{None, codes};
 ghost use Rattle.std.specs.Option.{option_map};
 ghost use Rattle.std.specs.List.{flat_map};
 ghost use Rattle.etherparse.specs.Arp.{arp_of};
@@ -183,6 +183,21 @@ pub(crate) fn write_ethernet2<W: Sink>(slice: &Ethernet2Slice<'_>, out: &mut Out
     write_member(&rows::ETH[6], ethernet2_value(slice, 1), out);
     write_member(&rows::ETH[7], ethernet2_value(slice, 2), out);
     write_member(&rows::ETH[8], ethernet2_value(slice, 3), out);
+}
+
+/// .. without a frame check sequence.
+#[inline(never)]
+pub(crate) fn write_ethernet2_without_fcs<W: Sink>(
+    slice: &Ethernet2Slice<'_>,
+    out: &mut OutputBuffer<'_, W>,
+)
+    ensures { Takes W.contents W.can_fail out.old (flat_map keyed_text
+        (keyed_after ethernet2_rows (ethernet2_values (ethernet2_of slice.now.bytes) None))) out.new }
+{
+    write_rare_member(&rows::ETH[5], ethernet2_value(slice, 0), out);
+    write_rare_member(&rows::ETH[6], ethernet2_value(slice, 1), out);
+    write_rare_member(&rows::ETH[7], ethernet2_value(slice, 2), out);
+    write_rare_member(&rows::ETH[8], Some(Value::Nothing), out);
 }
 
 /// Writes the members of a VLAN tag.

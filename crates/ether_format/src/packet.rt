@@ -5,6 +5,7 @@ ghost use Rattle.ether_format.specs.Origins.{origin_view};
 ghost use Rattle.ether_format.specs.Texts.{HasText};
 
 use crate::csv::write_csv_row;
+use crate::json_bytes::write_json_bytes;
 use crate::line::{Line, write_line};
 use crate::row::write_row;
 use crate::{Format, Origin};
@@ -55,6 +56,7 @@ pub fn write_packet<W: Sink>(
 {
     match format {
         Format::Json => write_line(Line::Json, limit, origin, packet, out),
+        Format::JsonBytes => write_json_bytes(limit, origin, packet, out),
         Format::Brief => write_line(Line::Brief, limit, origin, packet, out),
         Format::Fields(columns) => write_row(columns, limit, origin, packet, out),
         Format::Csv(columns) => write_csv_row(columns, limit, origin, packet, out),

@@ -1,6 +1,6 @@
 -- What is wrong with the words of a request.
 use Rattle.std.specs.Prelude.{◌≡◌, ℕ, List, ◌++◌, codes, Option, Some}
-use Rattle.ether_stream.specs.declared.messages.TheConstants.{BY, CLASH, COLUMNS, COPIES, COUNT, CUT_TO_HEADERS, EDITS, FIELDS, FORMAT, FORMATS, FORMAT_CSV, HEADER, HEADERS, INPUT_TWICE, JOBS, KEEP_OR_DROP, LIMIT, NO_COLUMN, NO_OPTION, NO_VALUE, PACKETS, POP_VLAN, PUSHED_TAG, PUSH_VLAN, SELECT, SET_VLAN, STATS, STATUS_ON_FAULT, SURPLUS, TWICE, TWO_IDENTIFIERS, UNDECIDED, YES_OR_NO}
+use Rattle.ether_stream.specs.declared.messages.TheConstants.{BY, BYTES, CLASH, COLUMNS, COPIES, COUNT, CUT_TO_HEADERS, EDITS, FIELDS, FORMAT, FORMATS, FORMAT_CSV, FORMAT_JSON, HEADER, HEADERS, INPUT_TWICE, JOBS, KEEP_OR_DROP, LIMIT, NO_COLUMN, NO_OPTION, NO_VALUE, PACKETS, POP_VLAN, PUSHED_TAG, PUSH_VLAN, SELECT, SET_VLAN, STATS, STATUS_ON_FAULT, SURPLUS, TWICE, TWO_IDENTIFIERS, UNDECIDED, YES_OR_NO}
 use Rattle.ether_stream.specs.declared.usage.DependentOption.{DependentOption}
 use Rattle.ether_stream.specs.declared.usage.DependentOption.TheVariants as dependent
 use Rattle.ether_stream.specs.declared.usage.Usage.{Usage}
@@ -39,6 +39,7 @@ abbrev pub dependent_text : DependentOption → List ℕ
 dependent_text dependent.Undecided = UNDECIDED.now
 dependent_text dependent.Header = HEADER.now
 dependent_text dependent.Csv = FORMAT_CSV.now
+dependent_text dependent.Bytes = BYTES.now
 dependent_text dependent.By = BY.now
 dependent_text dependent.CutToHeaders = CUT_TO_HEADERS.now
 dependent_text dependent.PopVlan = POP_VLAN.now
@@ -50,6 +51,7 @@ abbrev pub needed_text : DependentOption → List ℕ
 needed_text dependent.Undecided = SELECT.now
 needed_text dependent.Header = FIELDS.now
 needed_text dependent.Csv = FIELDS.now
+needed_text dependent.Bytes = FORMAT_JSON.now
 needed_text dependent.By = STATS.now
 needed_text option = COPIES.now
 

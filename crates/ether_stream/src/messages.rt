@@ -57,6 +57,8 @@ pub(crate) const OTHER_VERSION: &str = " editcap converts it.";
 
 pub(crate) const BY: &str = "--by";
 
+pub(crate) const BYTES: &str = "--bytes";
+
 pub(crate) const COUNT: &str = "-c";
 
 pub(crate) const CUT_TO_HEADERS: &str = "--cut-to-headers";
@@ -66,6 +68,8 @@ pub(crate) const FIELDS: &str = "--fields";
 pub(crate) const FORMAT: &str = "--format";
 
 pub(crate) const FORMAT_CSV: &str = "--format csv";
+
+pub(crate) const FORMAT_JSON: &str = "--format json";
 
 pub(crate) const HEADER: &str = "--header";
 

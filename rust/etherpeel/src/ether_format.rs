@@ -15,6 +15,7 @@ mod found_header;
 mod gathered;
 mod interval;
 mod json;
+mod json_bytes;
 mod line;
 mod members;
 mod moment;

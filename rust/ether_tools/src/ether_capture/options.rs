@@ -53,6 +53,7 @@ fn asked<'a>(matches: &ArgMatches, words: &'a [String]) -> Result<Asked<'a>, Usa
         is_plain: matches.get_flag("plain"),
         is_write: matches.get_flag("write"),
         is_shown: matches.get_flag("progress"),
+        has_bytes: matches.get_flag("bytes"),
         has_header: matches.get_flag("header"),
         is_counted,
         is_merge: matches.get_flag("merge"),

@@ -84,6 +84,7 @@ pub(in crate::ether_capture) struct Asked<'a> {
     pub(in crate::ether_capture) is_plain: bool,
     pub(in crate::ether_capture) is_write: bool,
     pub(in crate::ether_capture) is_shown: bool,
+    pub(in crate::ether_capture) has_bytes: bool,
     pub(in crate::ether_capture) has_header: bool,
     pub(in crate::ether_capture) is_counted: bool,
     pub(in crate::ether_capture) is_merge: bool,
@@ -143,9 +144,17 @@ impl<'a> Asked<'a> {
         if self.is_csv() && self.fields.is_none() && !self.is_counted {
             return Some(DependentOption::Csv);
         }
+        if self.has_bytes && !self.is_json() {
+            return Some(DependentOption::Bytes);
+        }
         if self.by.is_some() && !self.is_counted {
             return Some(DependentOption::By);
         }
+        self.lacking_copy()
+    }
+
+    /// The option of an edit that is there without a copy.
+    fn lacking_copy(&self) -> Option<DependentOption> {
         if self.is_copy() {
             return None;
         }
@@ -199,13 +208,14 @@ impl<'a> Asked<'a> {
 
     /// Tests that packets are to have a form that sums of counts do not have, or that their faults count.
     fn forms_packets(&self) -> bool {
-        self.status_on_fault.is_some() || self.is_brief() || self.is_csv()
+        self.status_on_fault.is_some() || self.has_bytes || self.is_brief() || self.is_csv()
     }
 
     /// Tests that there is an option of columns that does not go with the others.
     fn clashes_in_columns(&self) -> bool {
         if self.is_counted {
             return self.has_header
+                || self.has_bytes
                 || self.counted.is_none()
                 || self.is_brief()
                 || self.is_csv()
@@ -252,7 +262,7 @@ impl<'a> Asked<'a> {
         match self.columns() {
             Some(columns) if self.is_csv() => Some(Format::Csv(columns)),
             Some(columns) => Some(Format::Fields(columns)),
-            None => format_named(self.format),
+            None => format_named(self.format, self.has_bytes),
         }
     }
 
@@ -418,9 +428,10 @@ pub(in crate::ether_capture) fn first_of(by: Option<Columns>, fields: Option<Col
     }
 }
 
-/// The format of this name, unless it has columns.
-fn format_named(name: Option<FormatName>) -> Option<Format> {
+/// The format of this name, unless it has columns; objects of JSON with all bytes of a packet if `has_bytes`.
+fn format_named(name: Option<FormatName>, has_bytes: bool) -> Option<Format> {
     match name {
+        Some(FormatName::Json) if has_bytes => Some(Format::JsonBytes),
         Some(FormatName::Json) => Some(Format::Json),
         Some(FormatName::Brief) => Some(Format::Brief),
         Some(FormatName::Csv) | None => None,

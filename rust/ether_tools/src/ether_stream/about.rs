@@ -3,7 +3,7 @@
 /// What `--help` prints, without its last LF. The lines of the options are made of the table of options of
 /// `ether_capture`, by `tests/options.py --set`.
 pub const HELP: &str =
-    "usage: ether_capture [[--plain | --format lines|brief|json | --fields COLUMNS [--format csv] [--header] | --stats [--fields COLUMNS | --by COLUMNS] [--format json]] [--limit N] [--status-on-fault yes|no] | --merge [--format json] | --write [-w COPY] [--cut-to-headers | --pop-vlan | --push-vlan TPID:ID | --set-vlan A:B]] [--select EXPR [--undecided keep|drop]] [-c N] [--progress] [--jobs N] [-r FILE | FILE..]
+    "usage: ether_capture [[--plain | --format lines|brief|json [--bytes] | --fields COLUMNS [--format csv] [--header] | --stats [--fields COLUMNS | --by COLUMNS] [--format json]] [--limit N] [--status-on-fault yes|no] | --merge [--format json] | --write [-w COPY] [--cut-to-headers | --pop-vlan | --push-vlan TPID:ID | --set-vlan A:B]] [--select EXPR [--undecided keep|drop]] [-c N] [--progress] [--jobs N] [-r FILE | FILE..]
 
 Prints the link-layer headers of each packet of captures, pcap or pcapng: of each FILE, or of standard input, which a FILE of - also names. What can't be read or written is said on standard error.
 
@@ -22,6 +22,7 @@ Lines:
   --limit N         read N VLAN tags and SecTags of each packet at most
   --format lines|brief|json|csv
                     print lines as ever; or each packet on a line of its own, for the eye, as an object of JSON or, with --fields, as CSV, without totals
+  --bytes           with --format json, also print the bytes after the headers of a packet, and reserved bits that are not 0
   --fields COLUMNS  print the values of COLUMNS, as frame.number,vlan.vid,eth.src, with tabs; more than one value with commas
   --header          with --fields, print a line of the names first
   --stats           count packets and bytes by the values of COLUMNS, or without --fields of headers, VLANs, types, faults and ARP senders

@@ -57,6 +57,8 @@ pub(in crate::ether_stream) const OTHER_VERSION: &str = " editcap converts it.";
 
 pub(in crate::ether_stream) const BY: &str = "--by";
 
+pub(in crate::ether_stream) const BYTES: &str = "--bytes";
+
 pub(in crate::ether_stream) const COUNT: &str = "-c";
 
 pub(in crate::ether_stream) const CUT_TO_HEADERS: &str = "--cut-to-headers";
@@ -66,6 +68,8 @@ pub(in crate::ether_stream) const FIELDS: &str = "--fields";
 pub(in crate::ether_stream) const FORMAT: &str = "--format";
 
 pub(in crate::ether_stream) const FORMAT_CSV: &str = "--format csv";
+
+pub(in crate::ether_stream) const FORMAT_JSON: &str = "--format json";
 
 pub(in crate::ether_stream) const HEADER: &str = "--header";
 

@@ -1,10 +1,10 @@
 //! What is wrong with the words of a request.
 
 use crate::ether_stream::messages::{
-    BY, CLASH, COLUMNS, COPIES, COUNT, CUT_TO_HEADERS, EDITS, FIELDS, FORMAT, FORMAT_CSV, FORMATS,
-    HEADER, HEADERS, INPUT_TWICE, JOBS, KEEP_OR_DROP, LIMIT, NO_COLUMN, NO_OPTION, NO_VALUE,
-    PACKETS, POP_VLAN, PUSH_VLAN, PUSHED_TAG, SELECT, SET_VLAN, STATS, STATUS_ON_FAULT, SURPLUS,
-    TWICE, TWO_IDENTIFIERS, UNDECIDED, YES_OR_NO,
+    BY, BYTES, CLASH, COLUMNS, COPIES, COUNT, CUT_TO_HEADERS, EDITS, FIELDS, FORMAT, FORMAT_CSV,
+    FORMAT_JSON, FORMATS, HEADER, HEADERS, INPUT_TWICE, JOBS, KEEP_OR_DROP, LIMIT, NO_COLUMN,
+    NO_OPTION, NO_VALUE, PACKETS, POP_VLAN, PUSH_VLAN, PUSHED_TAG, SELECT, SET_VLAN, STATS,
+    STATUS_ON_FAULT, SURPLUS, TWICE, TWO_IDENTIFIERS, UNDECIDED, YES_OR_NO,
 };
 use std::fmt;
 
@@ -74,6 +74,8 @@ pub enum DependentOption {
     Header,
     /// `--format csv`.
     Csv,
+    /// `--bytes`.
+    Bytes,
     /// `--by`.
     By,
     /// `--cut-to-headers`.
@@ -93,6 +95,7 @@ impl DependentOption {
             DependentOption::Undecided => UNDECIDED,
             DependentOption::Header => HEADER,
             DependentOption::Csv => FORMAT_CSV,
+            DependentOption::Bytes => BYTES,
             DependentOption::By => BY,
             DependentOption::CutToHeaders => CUT_TO_HEADERS,
             DependentOption::PopVlan => POP_VLAN,
@@ -106,6 +109,7 @@ impl DependentOption {
         match self {
             DependentOption::Undecided => SELECT,
             DependentOption::Header | DependentOption::Csv => FIELDS,
+            DependentOption::Bytes => FORMAT_JSON,
             DependentOption::By => STATS,
             DependentOption::CutToHeaders
             | DependentOption::PopVlan

@@ -1314,19 +1314,30 @@
 //!
 //! Uses: [`Member`](#def.Member), [`json_members`](#def.json_members)
 //!
+//! <a id="def.objects_of"></a>
+//!
+//! ## `objects_of`
+//!
+//! Objects with a comma between two, each with the members that a header has.
+//!
+//! ```text
+//! abbrev pub objects_of : (members : Told → List Member) → List Told → List ℕ
+//! objects_of members [] = []
+//! objects_of members (h ∷ hs) = json_object (members h) ++ flat_map (λ k. codes "," ++ json_object (members k)) hs
+//! ```
+//!
+//! Uses: [`Told`](#def.Told), [`Member`](#def.Member), [`json_object`](#def.json_object)
+//!
 //! <a id="def.json_objects"></a>
 //!
 //! ## `json_objects`
 //!
-//! Objects with a comma between two.
-//!
 //! ```text
 //! abbrev pub json_objects : List Told → List ℕ
-//! json_objects [] = []
-//! json_objects (h ∷ hs) = json_object (told_members h) ++ flat_map (λ k. codes "," ++ json_object (told_members k)) hs
+//! json_objects headers = objects_of told_members headers
 //! ```
 //!
-//! Uses: [`Told`](#def.Told), [`json_object`](#def.json_object), [`told_members`](#def.told_members)
+//! Uses: [`Told`](#def.Told), [`objects_of`](#def.objects_of), [`told_members`](#def.told_members)
 //!
 //! <a id="def.json_front"></a>
 //!
@@ -1341,19 +1352,30 @@
 //!
 //! Uses: [`OriginValue`](#def.OriginValue), [`PacketValue`](crate::definitions::ether_pcap#def.PacketValue), [`json_members`](#def.json_members), [`packet_members`](#def.packet_members)
 //!
+//! <a id="def.json_end_of"></a>
+//!
+//! ## `json_end_of`
+//!
+//! The end of that list, and an object with these members under the name of how the walk ends.
+//!
+//! ```text
+//! abbrev pub json_end_of : End → List Member → List ℕ
+//! json_end_of end members =
+//!     codes "]," ++ (quoted (section_name (end_section end)) ++ (codes ":" ++ (json_object members ++ codes "}\n")))
+//! ```
+//!
+//! Uses: [`End`](#def.End), [`Member`](#def.Member), [`quoted`](#def.quoted), [`section_name`](crate::definitions::ether_fields#def.section_name), [`end_section`](#def.end_section), [`json_object`](#def.json_object)
+//!
 //! <a id="def.json_end"></a>
 //!
 //! ## `json_end`
 //!
-//! The end of that list, and how the walk ends, under its name.
-//!
 //! ```text
 //! abbrev pub json_end : End → List ℕ
-//! json_end end =
-//!     codes "]," ++ (quoted (section_name (end_section end)) ++ (codes ":" ++ (json_object (end_members end) ++ codes "}\n")))
+//! json_end end = json_end_of end (end_members end)
 //! ```
 //!
-//! Uses: [`End`](#def.End), [`quoted`](#def.quoted), [`section_name`](crate::definitions::ether_fields#def.section_name), [`end_section`](#def.end_section), [`json_object`](#def.json_object), [`end_members`](#def.end_members)
+//! Uses: [`End`](#def.End), [`json_end_of`](#def.json_end_of), [`end_members`](#def.end_members)
 //!
 //! <a id="def.json_line"></a>
 //!
@@ -1365,6 +1387,138 @@
 //! ```
 //!
 //! Uses: [`OriginValue`](#def.OriginValue), [`PacketValue`](crate::definitions::ether_pcap#def.PacketValue), [`Told`](#def.Told), [`End`](#def.End), [`json_front`](#def.json_front), [`json_objects`](#def.json_objects), [`json_end`](#def.json_end)
+//!
+//! # JSON bytes
+//!
+//! A packet as a line of JSON that says each of its bytes once: its headers, their reserved bits, and the bytes after
+//! them.
+//!
+//! **Headers**
+//!
+//! <a id="def.reserved_bits"></a>
+//!
+//! ## `reserved_bits`
+//!
+//! The reserved bits of a header, from its bytes on: two bits of a SecTag, before its short length (IEEE 802.1AE, 9.7);
+//! two bytes of cooked capture v2 (LINKTYPE\_LINUX\_SLL2). Others have none.
+//!
+//! ```text
+//! abbrev pub reserved_bits : Section → List ℕ → ℕ
+//! reserved_bits sections.Macsec bytes = slice_index_or bytes 1 0 / 2 ^ 6
+//! reserved_bits sections.Sll2 bytes = slice_index_or bytes 2 0 * 2 ^ 8 + slice_index_or bytes 3 0
+//! reserved_bits section bytes = 0
+//! ```
+//!
+//! Uses: `sections` (`Section`)
+//!
+//! <a id="def.told_reserved"></a>
+//!
+//! ## `told_reserved`
+//!
+//! > `reserved_bits`: The reserved bits of a header, from its bytes on: two bits of a SecTag, before its short length (IEEE 802.1AE, 9.7); two bytes of cooked capture v2 (LINKTYPE\_LINUX\_SLL2). Others have none.
+//!
+//! .. of a header of a packet.
+//!
+//! ```text
+//! abbrev pub told_reserved : (packet : List ℕ) → Told → ℕ
+//! told_reserved packet h = reserved_bits (told_section h) (drop (told_place h).start packet)
+//! ```
+//!
+//! Uses: [`Told`](#def.Told), [`reserved_bits`](#def.reserved_bits), [`told_section`](#def.told_section), [`told_place`](#def.told_place)
+//!
+//! <a id="def.reserved_members"></a>
+//!
+//! ## `reserved_members`
+//!
+//! They are a member if they are not 0.
+//!
+//! ```text
+//! abbrev pub reserved_members : (bits : ℕ) → List Member
+//! reserved_members bits = if nat_eq bits 0 then [] else member (codes "reserved") (Number bits) ∷ []
+//! ```
+//!
+//! Uses: [`Member`](#def.Member), [`member`](#def.member), [`Number`](#def.Members.Value)
+//!
+//! <a id="def.without_check"></a>
+//!
+//! ## `without_check`
+//!
+//! A frame check sequence is no member: it is among the bytes after the headers.
+//!
+//! ```text
+//! abbrev pub without_check : Told → Told
+//! without_check (Walked place h fcs) = Walked place h None
+//! without_check (CookedV2 place s) = CookedV2 place s
+//! ```
+//!
+//! Uses: [`Told`](#def.Told), [`Walked`](#def.Told), [`CookedV2`](#def.Told)
+//!
+//! <a id="def.exact_members"></a>
+//!
+//! ## `exact_members`
+//!
+//! ```text
+//! abbrev pub exact_members : (packet : List ℕ) → Told → List Member
+//! exact_members packet h = told_members (without_check h) ++ reserved_members (told_reserved packet h)
+//! ```
+//!
+//! Uses: [`Told`](#def.Told), [`Member`](#def.Member), [`told_members`](#def.told_members), [`without_check`](#def.without_check), [`reserved_members`](#def.reserved_members), [`told_reserved`](#def.told_reserved)
+//!
+//! **The bytes after them**
+//!
+//! <a id="def.headers_end"></a>
+//!
+//! ## `headers_end`
+//!
+//! The offset of the first byte after the last header that is found.
+//!
+//! ```text
+//! abbrev pub headers_end : End → ℕ
+//! headers_end (Rest start finish kind) = start
+//! headers_end (Skipped len) = 0
+//! headers_end (Fault start closed cause) = start
+//! ```
+//!
+//! Uses: [`End`](#def.End), [`Rest`](#def.End), [`Skipped`](#def.End), [`Fault`](#def.End)
+//!
+//! <a id="def.bytes_member"></a>
+//!
+//! ## `bytes_member`
+//!
+//! They are the last member, in two hexadecimal digits each.
+//!
+//! ```text
+//! abbrev pub bytes_member : (packet : List ℕ) → End → Member
+//! bytes_member packet end = member (codes "bytes") (Word (hex_text (drop (headers_end end) packet)))
+//! ```
+//!
+//! Uses: [`End`](#def.End), [`Member`](#def.Member), [`member`](#def.member), [`Word`](#def.Members.Value), [`hex_text`](crate::definitions::ether_output#def.hex_text), [`headers_end`](#def.headers_end)
+//!
+//! <a id="def.exact_end_members"></a>
+//!
+//! ## `exact_end_members`
+//!
+//! ```text
+//! abbrev pub exact_end_members : (packet : List ℕ) → End → List Member
+//! exact_end_members packet end = end_members end ++ (bytes_member packet end ∷ [])
+//! ```
+//!
+//! Uses: [`End`](#def.End), [`Member`](#def.Member), [`end_members`](#def.end_members), [`bytes_member`](#def.bytes_member)
+//!
+//! **The line**
+//!
+//! <a id="def.json_bytes_line"></a>
+//!
+//! ## `json_bytes_line`
+//!
+//! ```text
+//! abbrev pub json_bytes_line : OriginValue → PacketValue → Option Moment → List Told → End → List ℕ
+//! json_bytes_line origin p moment headers end =
+//!     json_front origin p moment
+//!     ++ (objects_of (exact_members p.packet) headers ++ json_end_of end (exact_end_members p.packet end))
+//! ```
+//!
+//! Uses: [`OriginValue`](#def.OriginValue), [`PacketValue`](crate::definitions::ether_pcap#def.PacketValue), [`Told`](#def.Told), [`End`](#def.End), [`json_front`](#def.json_front), [`objects_of`](#def.objects_of), [`exact_members`](#def.exact_members), [`json_end_of`](#def.json_end_of), [`exact_end_members`](#def.exact_end_members)
 //!
 //! # Brief
 //!
@@ -2320,12 +2474,13 @@
 //! ```text
 //! abbrev pub NamesFormat : (text : List ℕ) → Format → Type 0
 //! NamesFormat text Json = text ≡ codes "json"
+//! NamesFormat text JsonBytes = ⊥
 //! NamesFormat text Brief = text ≡ codes "brief"
 //! NamesFormat text (Fields columns) = AreColumns text (columns_view columns)
 //! NamesFormat text (Csv columns) = ⊥
 //! ```
 //!
-//! Uses: `Json` (`Format::Json`), `Brief` (`Format::Brief`), `Fields` (`Format::Fields`), [`AreColumns`](#def.AreColumns), [`columns_view`](#def.columns_view), `Csv` (`Format::Csv`)
+//! Uses: `Json` (`Format::Json`), `JsonBytes` (`Format::JsonBytes`), `Brief` (`Format::Brief`), `Fields` (`Format::Fields`), [`AreColumns`](#def.AreColumns), [`columns_view`](#def.columns_view), `Csv` (`Format::Csv`)
 //!
 //! # Texts
 //!
@@ -2338,6 +2493,7 @@
 //! ```text
 //! abbrev pub format_text : Format → OriginValue → PacketValue → Option Moment → List Told → End → List ℕ
 //! format_text Json origin p moment headers end = json_line origin p moment headers end
+//! format_text JsonBytes origin p moment headers end = json_bytes_line origin p moment headers end
 //! format_text Brief origin p moment headers end = brief_line origin.number p moment headers end
 //! format_text (Fields columns) origin p moment headers end =
 //!     row_text (columns_view columns) (sections origin p moment headers end)
@@ -2345,7 +2501,7 @@
 //!     csv_row (columns_view columns) (sections origin p moment headers end)
 //! ```
 //!
-//! Uses: [`OriginValue`](#def.OriginValue), [`PacketValue`](crate::definitions::ether_pcap#def.PacketValue), [`Told`](#def.Told), [`End`](#def.End), `Json` (`Format::Json`), [`json_line`](#def.json_line), `Brief` (`Format::Brief`), [`brief_line`](#def.brief_line), `Fields` (`Format::Fields`), [`row_text`](#def.row_text), [`columns_view`](#def.columns_view), [`sections`](#def.sections), `Csv` (`Format::Csv`), [`csv_row`](#def.csv_row)
+//! Uses: [`OriginValue`](#def.OriginValue), [`PacketValue`](crate::definitions::ether_pcap#def.PacketValue), [`Told`](#def.Told), [`End`](#def.End), `Json` (`Format::Json`), [`json_line`](#def.json_line), `JsonBytes` (`Format::JsonBytes`), [`json_bytes_line`](#def.json_bytes_line), `Brief` (`Format::Brief`), [`brief_line`](#def.brief_line), `Fields` (`Format::Fields`), [`row_text`](#def.row_text), [`columns_view`](#def.columns_view), [`sections`](#def.sections), `Csv` (`Format::Csv`), [`csv_row`](#def.csv_row)
 //!
 //! <a id="def.format_heading"></a>
 //!
@@ -2356,12 +2512,13 @@
 //! ```text
 //! abbrev pub format_heading : Format → List ℕ
 //! format_heading Json = []
+//! format_heading JsonBytes = []
 //! format_heading Brief = []
 //! format_heading (Fields columns) = heading_text (columns_view columns)
 //! format_heading (Csv columns) = csv_heading (columns_view columns)
 //! ```
 //!
-//! Uses: `Json` (`Format::Json`), `Brief` (`Format::Brief`), `Fields` (`Format::Fields`), [`heading_text`](#def.heading_text), [`columns_view`](#def.columns_view), `Csv` (`Format::Csv`), [`csv_heading`](#def.csv_heading)
+//! Uses: `Json` (`Format::Json`), `JsonBytes` (`Format::JsonBytes`), `Brief` (`Format::Brief`), `Fields` (`Format::Fields`), [`heading_text`](#def.heading_text), [`columns_view`](#def.columns_view), `Csv` (`Format::Csv`), [`csv_heading`](#def.csv_heading)
 //!
 //! <a id="def.HasText"></a>
 //!

@@ -28,6 +28,23 @@
 //!     ∷ (48 + n / 10 ^ 3 % 10) ∷ (48 + n / 10 ^ 2 % 10) ∷ (48 + n / 10 % 10) ∷ (48 + n % 10) ∷ []
 //! ```
 //!
+//! # Hex text
+//!
+//! Bytes as hexadecimal text.
+//!
+//! <a id="def.hex_text"></a>
+//!
+//! ## `hex_text`
+//!
+//! Two lower-case digits for each byte.
+//!
+//! ```text
+//! unfoldable pub hex_text : List ℕ → List ℕ
+//! hex_text bytes = flat_map (hex_byte false) bytes
+//! ```
+//!
+//! Uses: [`hex_byte`](crate::definitions::ether_base#def.hex_byte)
+//!
 //! # Output buffer
 //!
 //! A writer and the text that waits for it.

@@ -22,6 +22,15 @@ impl End {
         !matches!(self, End::Fault(_, _, _))
     }
 
+    /// The offset of the first byte after the last header that is found.
+    #[inline]
+    pub(in crate::ether_format) fn headers_end(&self) -> usize {
+        match self {
+            End::Rest(start, _, _) | End::Fault(start, _, _) => *start,
+            End::Skipped(_) => 0,
+        }
+    }
+
     /// Its section.
     #[inline(always)]
     pub(in crate::ether_format) fn section(&self) -> Section {

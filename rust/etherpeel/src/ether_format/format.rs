@@ -9,6 +9,10 @@ pub enum Format {
     /// A line of JSON (RFC 8259): an object with the packet's members, a list of its headers, and what is left or
     /// wrong.
     Json,
+    /// As [`Format::Json`], but with each byte of the packet: what is left or wrong also has the bytes after the headers,
+    /// as `bytes`, in hexadecimal digits. A frame check sequence is among these, and so `fcs` is `null`. A SecTag or a
+    /// header of cooked capture v2 has its reserved bits, as `reserved`, if they are not 0.
+    JsonBytes,
     /// A line for the eye: number and time, addresses, tags and types by name, and what is left or wrong.
     Brief,
     /// A row of columns, with a tab between two.
@@ -34,7 +38,7 @@ impl Format {
     #[inline]
     pub fn write_heading<W: Sink>(&self, out: &mut OutputBuffer<'_, W>) {
         match self {
-            Format::Json | Format::Brief => {}
+            Format::Json | Format::JsonBytes | Format::Brief => {}
             Format::Fields(columns) => columns.write_heading(out),
             Format::Csv(columns) => columns.write_csv_heading(out),
         }

@@ -35,7 +35,7 @@ pub(in crate::ether_format) fn write_json_header<W: Sink>(
 
 /// Writes the members of a header after its name and its place.
 #[inline(always)]
-fn write_own<W: Sink>(header: &FoundHeader<'_>, out: &mut OutputBuffer<'_, W>) {
+pub(in crate::ether_format) fn write_own<W: Sink>(header: &FoundHeader<'_>, out: &mut OutputBuffer<'_, W>) {
     match header {
         FoundHeader::Walked(unit) => write_unit(unit, out),
         FoundHeader::Cooked(header) => members::write_cooked(header, out),
@@ -45,7 +45,7 @@ fn write_own<W: Sink>(header: &FoundHeader<'_>, out: &mut OutputBuffer<'_, W>) {
 
 /// Writes the members of a header of the walk after its name and its place.
 #[inline(always)]
-fn write_unit<W: Sink>(unit: &PeelUnit<'_>, out: &mut OutputBuffer<'_, W>) {
+pub(in crate::ether_format) fn write_unit<W: Sink>(unit: &PeelUnit<'_>, out: &mut OutputBuffer<'_, W>) {
     match unit {
         PeelUnit::Ethernet2(slice) => members::write_ethernet2(slice, out),
         PeelUnit::LinuxSll(slice) => members::write_linux_sll(slice, out),
@@ -58,21 +58,25 @@ fn write_unit<W: Sink>(unit: &PeelUnit<'_>, out: &mut OutputBuffer<'_, W>) {
 /// Writes the end of the list of headers, and how the walk through them ends.
 #[inline]
 pub(in crate::ether_format) fn write_json_end<W: Sink>(end: &End, out: &mut OutputBuffer<'_, W>) {
+    write_end_front(end, out);
+    out.append(b"}}\n");
+}
+
+/// .. up to the last member of how the walk ends.
+#[inline(always)]
+pub(in crate::ether_format) fn write_end_front<W: Sink>(end: &End, out: &mut OutputBuffer<'_, W>) {
     match end {
         End::Rest(start, end, kind) => {
             out.append(b"],\"rest\":");
             members::write_rest(*start, *end, kind, out);
-            out.append(b"}}\n");
         }
         End::Skipped(len) => {
             out.append(b"],\"rest\":");
             members::write_skipped(*len, out);
-            out.append(b"}}\n");
         }
         End::Fault(start, closed, cause) => {
             out.append(b"],\"fault\":");
             members::write_fault(*start, *closed, cause, out);
-            out.append(b"}}\n");
         }
     }
 }

@@ -147,6 +147,18 @@ pub(in crate::ether_format) fn write_ethernet2<W: Sink>(slice: &Ethernet2Slice<'
     write_member(&rows::ETH[8], ethernet2_value(slice, 3), out);
 }
 
+/// .. without a frame check sequence.
+#[inline(never)]
+pub(in crate::ether_format) fn write_ethernet2_without_fcs<W: Sink>(
+    slice: &Ethernet2Slice<'_>,
+    out: &mut OutputBuffer<'_, W>,
+) {
+    write_rare_member(&rows::ETH[5], ethernet2_value(slice, 0), out);
+    write_rare_member(&rows::ETH[6], ethernet2_value(slice, 1), out);
+    write_rare_member(&rows::ETH[7], ethernet2_value(slice, 2), out);
+    write_rare_member(&rows::ETH[8], Some(Value::Nothing), out);
+}
+
 /// Writes the members of a VLAN tag.
 #[inline(always)]
 pub(in crate::ether_format) fn write_vlan<W: Sink>(slice: &SingleVlanSlice<'_>, out: &mut OutputBuffer<'_, W>) {

@@ -1,6 +1,7 @@
 //! Writes a captured packet in a format.
 
 use crate::ether_format::csv::write_csv_row;
+use crate::ether_format::json_bytes::write_json_bytes;
 use crate::ether_format::line::{Line, write_line};
 use crate::ether_format::row::write_row;
 use crate::ether_format::{Format, Origin};
@@ -71,6 +72,7 @@ pub fn write_packet<W: Sink>(
 ) -> bool {
     match format {
         Format::Json => write_line(Line::Json, limit, origin, packet, out),
+        Format::JsonBytes => write_json_bytes(limit, origin, packet, out),
         Format::Brief => write_line(Line::Brief, limit, origin, packet, out),
         Format::Fields(columns) => write_row(columns, limit, origin, packet, out),
         Format::Csv(columns) => write_csv_row(columns, limit, origin, packet, out),
