@@ -80,7 +80,7 @@ ends-later link frames bytes (some f fs b c) =
 
 pub first-grows : (link : Option ℕ) (frame : FrameValue) (held mid holds : Option (List ℕ)) → link ≡ None
     → length frame.packet ≤ max_captured_len → WritesPart (IsHeaderOf frame.link) held mid
-    → WritesPart (IsRecordOf frame) mid holds → Grows link (linked link frame) frame held holds
+    → WritesPart (IsRecordOf frame) mid holds → Grows IsBegun link (linked link frame) frame held holds
 first-grows (Some l) frame held mid holds e fits h one = absurd (true≢false (ap is_some e))
 first-grows None frame held mid holds e fits h one = record {
   more = h.part ++ one.part;
@@ -90,7 +90,7 @@ first-grows None frame held mid holds e fits h one = record {
 
 pub later-grows : (link : Option ℕ) (l : ℕ) (frame : FrameValue) (held holds : Option (List ℕ)) → link ≡ Some l
     → length frame.packet ≤ max_captured_len → WritesPart (IsRecordOf frame) held holds
-    → Grows link (linked link frame) frame held holds
+    → Grows IsBegun link (linked link frame) frame held holds
 later-grows None l frame held holds e fits one = absurd (true≢false (ap is_some (sym e)))
 later-grows (Some k) l frame held holds e fits one = record {
   more = one.part;
@@ -99,7 +99,7 @@ later-grows (Some k) l frame held holds e fits one = record {
 }
 
 pub first-ends : (link : Option ℕ) (held mid holds : Option (List ℕ)) → link ≡ None
-    → WritesPart (IsHeaderOf 1) held mid → Keeps mid holds → Ends link held holds
+    → WritesPart (IsHeaderOf 1) held mid → Keeps mid holds → Ends IsBegun IsTheCapture link held holds
 first-ends (Some l) held mid holds e h kept = absurd (true≢false (ap is_some e))
 first-ends None held mid holds e h kept = record {
   more = h.part;
@@ -108,7 +108,7 @@ first-ends None held mid holds e h kept = record {
 }
 
 pub later-ends : (link : Option ℕ) (l : ℕ) (held holds : Option (List ℕ)) → link ≡ Some l → Keeps held holds
-    → Ends link held holds
+    → Ends IsBegun IsTheCapture link held holds
 later-ends None l held holds e kept = absurd (true≢false (ap is_some (sym e)))
 later-ends (Some k) l held holds e kept = record {
   more = [];

@@ -1,13 +1,15 @@
 -- A run, line by line.
-use Rattle.std.proofs.Common.{◌≡◌, ◌≢◌, ℕ, ◌+◌, ◌-◌, ◌<◌, ◌≤◌, List, [], ◌∷◌, ◌++◌, length, take, map, Option, Some, None, IfSome, Ok, Err, Bool, true, false, All, refl, sym, ap, subst, ◌∙◌, arith, append_assoc}
+use Rattle.std.proofs.Common.{◌≡◌, ◌≢◌, ℕ, ◌+◌, ◌-◌, ◌<◌, ◌≤◌, List, [], ◌∷◌, ◌++◌, length, map, Option, Some, None, IfSome, Ok, Err, Bool, true, false, All, refl, sym, ap, subst, ◌∙◌, arith, append_assoc}
 use Rattle.std.proofs.lemmas.List.{append-nil, map-append, take_at, length_push}
 use Rattle.std.proofs.lemmas.List.Elements.{All-take}
 use Rattle.std.proofs.KnownBytes.{Consumes-nil, Consumes-trans, Appends-nil, Appends-trans}
 use Rattle.std.specs.Io.KnownBytes.{Appends, Consumes, IsAtEnd}
 use Rattle.std.specs.Io.{StopsAt}
 use Rattle.ether_pcap.specs.Record.{max_captured_len}
-use Rattle.ether_make.specs.Captures.{Ends, Grows, IsBegun, IsPaddedBegun, IsPaddedCapture, nothing}
-use Rattle.ether_make.specs.Frames.{FrameValue, padded}
+use Rattle.ether_make.specs.Captures.{Ends, Grows}
+use Rattle.ether_make.specs.Frames.{FrameValue}
+use Rattle.ether_make.specs.Outputs.{IsBegunAs, IsOutput, IsOutputBegun, IsWrittenAs, finished}
+use Rattle.ether_make.specs.declared.settings.Settings.{Settings}
 use Rattle.ether_make.specs.Lines.{LineMeans, LineRefusal, LinesMean, lines_in, linked}
 use Rattle.ether_make.specs.Lines as meant
 use Rattle.ether_make.specs.LineViews.{IfTold, fault_view}
@@ -15,27 +17,29 @@ use Rattle.ether_make.specs.Program.{Ran, HasMade, HasBroken, AfterLine, AfterFa
 use Rattle.ether_make.specs.declared.lines.Stop.{Stop}
 use Rattle.ether_make.specs.declared.program.RunFault.{RunFault}
 use Rattle.ether_make.specs.declared.program.RunFault.TheVariants as runs
-use Rattle.ether_make.proofs.LineLemmas.{lines-ended, lines-last, line-fits, padded-fits, padded-linked}
+use Rattle.ether_make.proofs.OutputLemmas.{begun-nothing, finished-fits, finished-linked}
+use Rattle.ether_make.proofs.LineLemmas.{lines-ended, lines-last, line-fits}
 
 -- all lines before the one with this number are read, made and written
-pub record Doing (pad : Bool) (before now held holds : Option (List ℕ)) (number : ℕ) (link : Option ℕ) : Type 0 where
+pub record Doing (settings : Settings) (before now held holds : Option (List ℕ)) (number : ℕ) (link : Option ℕ) : Type
+    0 where
   pub text : List ℕ
   pub frames : List FrameValue
   pub bytes : List ℕ
   pub read : Consumes before now text
-  pub begun : IsPaddedBegun pad link frames bytes
+  pub begun : IsOutputBegun settings link frames bytes
   pub written : Appends held holds bytes
   pub means : (later : List ℕ) (more : List FrameValue) (stop : Option (ℕ × LineRefusal))
       → LinesMean number link (lines_in later) more stop
       → LinesMean 1 None (lines_in (text ++ later)) (frames ++ more) stop
 
-pub doing-begin : (pad : Bool) (before held : Option (List ℕ)) → Doing pad before before held held 1 None
-doing-begin pad before held = record {
+pub doing-begin : (settings : Settings) (before held : Option (List ℕ)) → Doing settings before before held held 1 None
+doing-begin settings before held = record {
   text = [];
   frames = [];
   bytes = [];
   read = Consumes-nil before;
-  begun = nothing;
+  begun = begun-nothing settings.form;
   written = Appends-nil held;
   means = λ later more stop h. h;
 }
@@ -81,47 +85,48 @@ ended_means number after link linked text line frames new one means step later m
     (subst (λ (ls : List (List ℕ)). LinesMean number link ls (new ++ more) stop) (sym (lines-ended line later one))
     (step (lines_in later) more stop h))))
 
-grown : (pad : Bool) (link after : Option ℕ) (f : FrameValue) (frames : List FrameValue) (bytes more : List ℕ)
-    → IsBegun after (map (padded pad) frames ++ padded pad f ∷ []) (bytes ++ more)
-    → IsPaddedBegun pad after (frames ++ f ∷ []) (bytes ++ more)
-grown pad link after f frames bytes more h =
-    subst (λ (fs : List FrameValue). IsBegun after fs (bytes ++ more)) (sym (map-append (padded pad) frames (f ∷ []))) h
+grown : (settings : Settings) (link after : Option ℕ) (f : FrameValue) (frames : List FrameValue) (bytes more : List ℕ)
+    → IsBegunAs settings.form after (map (finished settings) frames ++ finished settings f ∷ []) (bytes ++ more)
+    → IsOutputBegun settings after (frames ++ f ∷ []) (bytes ++ more)
+grown settings link after f frames bytes more h =
+    subst (λ (fs : List FrameValue). IsBegunAs settings.form after fs (bytes ++ more))
+    (sym (map-append (finished settings) frames (f ∷ []))) h
 
--- what is written of a frame of a line, which is padded
-pub line-taken : (pad : Bool) (text : List ℕ) (held holds : Option (List ℕ)) (link after : Option ℕ)
+-- what is written of a frame of a line, which is finished
+pub line-taken : (settings : Settings) (text : List ℕ) (held holds : Option (List ℕ)) (link after : Option ℕ)
     (f made : FrameValue) → 0 < length text
-    → LineMeans link text (Ok f) → made ≡ padded pad f → after ≡ linked link made
-    → (length made.packet ≤ max_captured_len → Grows link (linked link made) made held holds)
-    → TakesLine pad text held holds link after
-line-taken pad text held holds link after f made some means is linked_is grows =
+    → LineMeans link text (Ok f) → made ≡ finished settings f → after ≡ linked link made
+    → (length made.packet ≤ max_captured_len → Grows (IsBegunAs settings.form) link (linked link made) made held holds)
+    → TakesLine settings text held holds link after
+line-taken settings text held holds link after f made some means is linked_is grows =
     let fit : length made.packet ≤ max_captured_len =
     subst (λ (x : FrameValue). length x.packet ≤ max_captured_len) (sym is)
-    (padded-fits pad f (line-fits link text f means)) in
-    let same : linked link made ≡ linked link f = ap (linked link) is ∙ padded-linked pad link f in
-    subst (λ (l : Option ℕ). TakesLine pad text held holds link l) (sym (linked_is ∙ same))
+    (finished-fits settings f (line-fits link text f means)) in
+    let same : linked link made ≡ linked link f = ap (linked link) is ∙ finished-linked settings link f in
+    subst (λ (l : Option ℕ). TakesLine settings text held holds link l) (sym (linked_is ∙ same))
     (frame link f some means
-    (subst (λ (l : Option ℕ). Grows link l (padded pad f) held holds) same
-    (subst (λ (x : FrameValue). Grows link (linked link made) x held holds) is (grows fit))))
+    (subst (λ (l : Option ℕ). Grows (IsBegunAs settings.form) link l (finished settings f) held holds) same
+    (subst (λ (x : FrameValue). Grows (IsBegunAs settings.form) link (linked link made) x held holds) is (grows fit))))
 
-pub doing-line : (pad : Bool) (before now after held mid holds : Option (List ℕ)) (number : ℕ) (line : List ℕ)
-    (link linked : Option ℕ) → Doing pad before now held mid number link → ReadsLine now after line true
-    → TakesLine pad line mid holds link linked → Doing pad before after held holds (number + 1) linked
-doing-line pad before now after held mid holds number line link linked d r (empty l e a) = record {
+pub doing-line : (settings : Settings) (before now after held mid holds : Option (List ℕ)) (number : ℕ) (line : List ℕ)
+    (link linked : Option ℕ) → Doing settings before now held mid number link → ReadsLine now after line true
+    → TakesLine settings line mid holds link linked → Doing settings before after held holds (number + 1) linked
+doing-line settings before now after held mid holds number line link linked d r (empty l e a) = record {
   text = d.text ++ (line ++ 10 ∷ []);
   frames = d.frames ++ [];
   bytes = d.bytes;
   read = Consumes-trans before now after d.text (line ++ 10 ∷ []) d.read r.read;
-  begun = subst (λ (fs : List FrameValue). IsPaddedBegun pad l fs d.bytes) (sym (append-nil d.frames)) d.begun;
+  begun = subst (λ (fs : List FrameValue). IsOutputBegun settings l fs d.bytes) (sym (append-nil d.frames)) d.begun;
   written = same_written held mid holds d.bytes d.written a;
   means = ended_means number (number + 1) l l d.text line d.frames [] r.one_line d.means
       (λ lines more stop h. empty_means number l line lines more stop e h);
 }
-doing-line pad before now after held mid holds number line link linked d r (frame l f some means g) = record {
+doing-line settings before now after held mid holds number line link linked d r (frame l f some means g) = record {
   text = d.text ++ (line ++ 10 ∷ []);
   frames = d.frames ++ f ∷ [];
   bytes = d.bytes ++ g.more;
   read = Consumes-trans before now after d.text (line ++ 10 ∷ []) d.read r.read;
-  begun = grown pad l _ f d.frames d.bytes g.more (g.begun (map (padded pad) d.frames) d.bytes d.begun);
+  begun = grown settings l _ f d.frames d.bytes g.more (g.begun (map (finished settings) d.frames) d.bytes d.begun);
   written = Appends-trans held mid holds d.bytes g.more d.written g.written;
   means = ended_means number (number + 1) l _ d.text line d.frames (f ∷ []) r.one_line d.means
       (λ lines more stop h. meant.frame number l line f lines more stop some means h);
@@ -151,10 +156,10 @@ read_last before now after text line a b =
     subst (λ (bs : List ℕ). Consumes before after bs) (sym (append_assoc text line []))
     (Consumes-trans before now after text (line ++ []) a b)
 
-pub doing-last : (pad : Bool) (before now after held mid holds : Option (List ℕ)) (number : ℕ) (line : List ℕ)
-    (link linked : Option ℕ) → Doing pad before now held mid number link → ReadsLine now after line false
-    → TakesLine pad line mid holds link linked → HasMade (IsPaddedBegun pad linked) before after held holds
-doing-last pad before now after held mid holds number line link linked d r (empty l e a) = record {
+pub doing-last : (settings : Settings) (before now after held mid holds : Option (List ℕ)) (number : ℕ) (line : List ℕ)
+    (link linked : Option ℕ) → Doing settings before now held mid number link → ReadsLine now after line false
+    → TakesLine settings line mid holds link linked → HasMade (IsOutputBegun settings linked) before after held holds
+doing-last settings before now after held mid holds number line link linked d r (empty l e a) = record {
   ran = record {
     text = d.text ++ line;
     frames = d.frames ++ [];
@@ -162,12 +167,13 @@ doing-last pad before now after held mid holds number line link linked d r (empt
     read = read_last before now after d.text line d.read r.read;
     means = last_means number l d.text line d.frames [] None r.one_line d.means
         (empty_means number l line [] [] None e (meant.none (number + 1) l));
-    is_written = subst (λ (fs : List FrameValue). IsPaddedBegun pad l fs d.bytes) (sym (append-nil d.frames)) d.begun;
+    is_written = subst (λ (fs : List FrameValue). IsOutputBegun settings l fs d.bytes) (sym (append-nil d.frames))
+        d.begun;
     written = same_written held mid holds d.bytes d.written a;
   };
   at_end = known_end before now after d.text d.read (r.at_end refl);
 }
-doing-last pad before now after held mid holds number line link linked d r (frame l f some means g) = record {
+doing-last settings before now after held mid holds number line link linked d r (frame l f some means g) = record {
   ran = record {
     text = d.text ++ line;
     frames = d.frames ++ f ∷ [];
@@ -175,7 +181,8 @@ doing-last pad before now after held mid holds number line link linked d r (fram
     read = read_last before now after d.text line d.read r.read;
     means = last_means number l d.text line d.frames (f ∷ []) None r.one_line d.means
         (meant.frame number l line f [] [] None some means (meant.none (number + 1) _));
-    is_written = grown pad l _ f d.frames d.bytes g.more (g.begun (map (padded pad) d.frames) d.bytes d.begun);
+    is_written = grown settings l _ f d.frames d.bytes g.more
+        (g.begun (map (finished settings) d.frames) d.bytes d.begun);
     written = Appends-trans held mid holds d.bytes g.more d.written g.written;
   };
   at_end = known_end before now after d.text d.read (r.at_end refl);
@@ -193,10 +200,11 @@ so_far number link text frames means =
     (subst (λ (fs : List FrameValue). LinesMean 1 None (lines_in (text ++ [])) fs None) (append-nil frames)
     (means [] [] None (meant.empty number link [] [] None (meant.none (number + 1) link))))
 
-pub doing-broken : (pad : Bool) (before now after held mid holds : Option (List ℕ)) (number : ℕ) (link : Option ℕ)
-    (part : List ℕ) → Doing pad before now held mid number link → Consumes now after part → StopsAt part 10
-    → Appends mid holds [] → HasBroken (IsPaddedBegun pad link) before after held holds
-doing-broken pad before now after held mid holds number link part d reads one a = record {
+pub doing-broken : (settings : Settings) (before now after held mid holds : Option (List ℕ)) (number : ℕ)
+    (link : Option ℕ)
+    (part : List ℕ) → Doing settings before now held mid number link → Consumes now after part → StopsAt part 10
+    → Appends mid holds [] → HasBroken (IsOutputBegun settings link) before after held holds
+doing-broken settings before now after held mid holds number link part d reads one a = record {
   part = part;
   one_line = one;
   ran = record {
@@ -223,15 +231,15 @@ refused_lines : (line : List ℕ) (is_ended : Bool) → All (λ c. c ≢ 10) lin
 refused_lines line true h = (lines_in [], lines-ended line [] h)
 refused_lines line false h = ([], ap lines_in (append-nil line) ∙ lines-last line h)
 
-after_line : (pad : Bool) (before now after held mid holds : Option (List ℕ)) (number : ℕ) (link : Option ℕ)
+after_line : (settings : Settings) (before now after held mid holds : Option (List ℕ)) (number : ℕ) (link : Option ℕ)
     (line : List ℕ)
-    (is_ended : Bool) (told : Option LineRefusal) → Doing pad before now held mid number link
+    (is_ended : Bool) (told : Option LineRefusal) → Doing settings before now held mid number link
     → ReadsLine now after line is_ended → 0 < length line → IfTold (λ r. LineMeans link line (Err r)) told
-    → Appends mid holds [] → AfterLine (IsPaddedBegun pad link) before after held holds number told
-after_line pad before now after held mid holds number link line is_ended None d r some means a =
-    doing-broken pad before now after held mid holds number link (line ++ line_end is_ended) d r.read
+    → Appends mid holds [] → AfterLine (IsOutputBegun settings link) before after held holds number told
+after_line settings before now after held mid holds number link line is_ended None d r some means a =
+    doing-broken settings before now after held mid holds number link (line ++ line_end is_ended) d r.read
     (stops_at line is_ended r.one_line) a
-after_line pad before now after held mid holds number link line is_ended (Some told) d r some means a =
+after_line settings before now after held mid holds number link line is_ended (Some told) d r some means a =
     let lines = refused_lines line is_ended r.one_line in
     record {
       text = d.text ++ (line ++ line_end is_ended);
@@ -245,80 +253,89 @@ after_line pad before now after held mid holds number link line is_ended (Some t
           (subst (λ (ls : List (List ℕ)). LinesMean number link ls [] (Some (number, told))) (sym lines.1)
           (meant.refused number link line lines.0 told some means));
       is_written =
-          subst (λ (fs : List FrameValue). IsPaddedBegun pad link fs d.bytes) (sym (append-nil d.frames)) d.begun;
+          subst (λ (fs : List FrameValue). IsOutputBegun settings link fs d.bytes) (sym (append-nil d.frames)) d.begun;
       written = same_written held mid holds d.bytes d.written a;
     }
 
-pub doing-refused : (pad : Bool) (before now after held mid holds : Option (List ℕ)) (number : ℕ)
+pub doing-refused : (settings : Settings) (before now after held mid holds : Option (List ℕ)) (number : ℕ)
     (link linked : Option ℕ) (line : List ℕ) (is_ended : Bool) (stop : Stop)
-    → Doing pad before now held mid number link
+    → Doing settings before now held mid number link
     → ReadsLine now after line is_ended → RefusesLine number line mid holds link linked stop
-    → AfterLine (IsPaddedBegun pad linked) before after held holds stop.line (fault_view stop.fault)
-doing-refused pad before now after held mid holds number link linked line is_ended stop d r f =
-    subst (λ (n : ℕ). AfterLine (IsPaddedBegun pad linked) before after held holds n (fault_view stop.fault))
+    → AfterLine (IsOutputBegun settings linked) before after held holds stop.line (fault_view stop.fault)
+doing-refused settings before now after held mid holds number link linked line is_ended stop d r f =
+    subst (λ (n : ℕ). AfterLine (IsOutputBegun settings linked) before after held holds n (fault_view stop.fault))
     (sym f.line)
-    (subst (λ (l : Option ℕ). AfterLine (IsPaddedBegun pad l) before after held holds number (fault_view stop.fault))
+    (subst (λ (l : Option ℕ). AfterLine (IsOutputBegun settings l) before after held holds number
+    (fault_view stop.fault))
     (sym f.same_link)
-    (after_line pad before now after held mid holds number link line is_ended (fault_view stop.fault) d r f.some f.means
+    (after_line settings before now after held mid holds number link line is_ended (fault_view stop.fault) d r f.some
+    f.means
     f.unwritten))
 
 -- .. in a run, by the fault of the line
-pub doing-fault : (pad : Bool) (before now after held mid holds : Option (List ℕ)) (number : ℕ)
+pub doing-fault : (settings : Settings) (before now after held mid holds : Option (List ℕ)) (number : ℕ)
     (link linked : Option ℕ) (line : List ℕ) (is_ended : Bool) (fault : RunFault)
-    → Doing pad before now held mid number link
+    → Doing settings before now held mid number link
     → ReadsLine now after line is_ended → AfterTaking number line mid holds link linked fault
-    → AfterFault (IsPaddedBegun pad linked) before after held holds fault
-doing-fault pad before now after held mid holds number link linked line is_ended (runs.Line stop) d r f =
-    doing-refused pad before now after held mid holds number link linked line is_ended stop d r f
-doing-fault pad before now after held mid holds number link linked line is_ended (runs.Input error) d r f = absurd f
-doing-fault pad before now after held mid holds number link linked line is_ended (runs.Output error) d r f = tt
+    → AfterFault (IsOutputBegun settings linked) before after held holds fault
+doing-fault settings before now after held mid holds number link linked line is_ended (runs.Line stop) d r f =
+    doing-refused settings before now after held mid holds number link linked line is_ended stop d r f
+doing-fault settings before now after held mid holds number link linked line is_ended (runs.Input error) d r f =
+    absurd f
+doing-fault settings before now after held mid holds number link linked line is_ended (runs.Output error) d r f = tt
 
 -- ---- the end
 
-ran-ends : (pad : Bool) (link : Option ℕ) (before after held mid holds : Option (List ℕ))
+ran-ends : (settings : Settings) (link : Option ℕ) (before after held mid holds : Option (List ℕ))
     (stop : Option (ℕ × LineRefusal)) (part : List ℕ)
-    → Ran (IsPaddedBegun pad link) before after held mid stop part → Ends link mid holds
-    → Ran (IsPaddedCapture pad) before after held holds stop part
-ran-ends pad link before after held mid holds stop part r e = record {
+    → Ran (IsOutputBegun settings link) before after held mid stop part → Ends (IsBegunAs settings.form)
+    (IsWrittenAs settings.form) link mid holds
+    → Ran (IsOutput settings) before after held holds stop part
+ran-ends settings link before after held mid holds stop part r e = record {
   text = r.text;
   frames = r.frames;
   bytes = r.bytes ++ e.more;
   read = r.read;
   means = r.means;
-  is_written = e.whole (map (padded pad) r.frames) r.bytes r.is_written;
+  is_written = e.whole (map (finished settings) r.frames) r.bytes r.is_written;
   written = Appends-trans held mid holds r.bytes e.more r.written e.written;
 }
 
-pub made-ends : (pad : Bool) (link : Option ℕ) (before after held mid holds : Option (List ℕ))
-    → HasMade (IsPaddedBegun pad link) before after held mid → Ends link mid holds
-    → HasMade (IsPaddedCapture pad) before after held holds
-made-ends pad link before after held mid holds m e = record {
-  ran = ran-ends pad link before after held mid holds None [] m.ran e;
+pub made-ends : (settings : Settings) (link : Option ℕ) (before after held mid holds : Option (List ℕ))
+    → HasMade (IsOutputBegun settings link) before after held mid → Ends (IsBegunAs settings.form)
+    (IsWrittenAs settings.form) link mid holds
+    → HasMade (IsOutput settings) before after held holds
+made-ends settings link before after held mid holds m e = record {
+  ran = ran-ends settings link before after held mid holds None [] m.ran e;
   at_end = m.at_end;
 }
 
-broken-ends : (pad : Bool) (link : Option ℕ) (before after held mid holds : Option (List ℕ))
-    → HasBroken (IsPaddedBegun pad link) before after held mid → Ends link mid holds
-    → HasBroken (IsPaddedCapture pad) before after held holds
-broken-ends pad link before after held mid holds b e = record {
+broken-ends : (settings : Settings) (link : Option ℕ) (before after held mid holds : Option (List ℕ))
+    → HasBroken (IsOutputBegun settings link) before after held mid → Ends (IsBegunAs settings.form)
+    (IsWrittenAs settings.form) link mid holds
+    → HasBroken (IsOutput settings) before after held holds
+broken-ends settings link before after held mid holds b e = record {
   part = b.part;
   one_line = b.one_line;
-  ran = ran-ends pad link before after held mid holds None b.part b.ran e;
+  ran = ran-ends settings link before after held mid holds None b.part b.ran e;
 }
 
-line-ends : (pad : Bool) (link : Option ℕ) (before after held mid holds : Option (List ℕ)) (line : ℕ)
-    (told : Option LineRefusal) → AfterLine (IsPaddedBegun pad link) before after held mid line told
-    → Ends link mid holds
-    → AfterLine (IsPaddedCapture pad) before after held holds line told
-line-ends pad link before after held mid holds line None h e = broken-ends pad link before after held mid holds h e
-line-ends pad link before after held mid holds line (Some r) h e =
-    ran-ends pad link before after held mid holds (Some (line, r)) [] h e
+line-ends : (settings : Settings) (link : Option ℕ) (before after held mid holds : Option (List ℕ)) (line : ℕ)
+    (told : Option LineRefusal) → AfterLine (IsOutputBegun settings link) before after held mid line told
+    → Ends (IsBegunAs settings.form) (IsWrittenAs settings.form) link mid holds
+    → AfterLine (IsOutput settings) before after held holds line told
+line-ends settings link before after held mid holds line None h e = broken-ends settings link before after held mid
+    holds h e
+line-ends settings link before after held mid holds line (Some r) h e =
+    ran-ends settings link before after held mid holds (Some (line, r)) [] h e
 
-pub fault-ends : (pad : Bool) (link : Option ℕ) (before after held mid holds : Option (List ℕ)) (fault : RunFault)
-    → AfterFault (IsPaddedBegun pad link) before after held mid fault → Ends link mid holds
-    → AfterFault (IsPaddedCapture pad) before after held holds fault
-fault-ends pad link before after held mid holds (runs.Line stop) h e =
-    line-ends pad link before after held mid holds stop.line (fault_view stop.fault) h e
-fault-ends pad link before after held mid holds (runs.Input error) h e =
-    broken-ends pad link before after held mid holds h e
-fault-ends pad link before after held mid holds (runs.Output error) h e = tt
+pub fault-ends : (settings : Settings) (link : Option ℕ) (before after held mid holds : Option (List ℕ))
+    (fault : RunFault)
+    → AfterFault (IsOutputBegun settings link) before after held mid fault → Ends (IsBegunAs settings.form)
+    (IsWrittenAs settings.form) link mid holds
+    → AfterFault (IsOutput settings) before after held holds fault
+fault-ends settings link before after held mid holds (runs.Line stop) h e =
+    line-ends settings link before after held mid holds stop.line (fault_view stop.fault) h e
+fault-ends settings link before after held mid holds (runs.Input error) h e =
+    broken-ends settings link before after held mid holds h e
+fault-ends settings link before after held mid holds (runs.Output error) h e = tt

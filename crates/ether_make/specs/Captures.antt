@@ -1,11 +1,11 @@
 -- The capture of frames.
-use Rattle.std.specs.Prelude.{◌≡◌, ℕ, ◌≤◌, List, [], ◌∷◌, ◌++◌, length, map, Bool, Option, Some, None}
+use Rattle.std.specs.Prelude.{◌≡◌, ℕ, List, [], ◌∷◌, ◌++◌, length, map, Option, Some, None}
 use Rattle.std.specs.Io.KnownBytes.{Appends}
 use Rattle.ether_pcap.specs.Numbers.{LittleEndian}
 use Rattle.ether_pcap.specs.FileHeader.{FileHeaderValue, Nanoseconds}
 use Rattle.ether_pcap.specs.Record.{RecordValue}
 use Rattle.ether_pcap.specs.Writing.{WritesFileHeader, WritesRecordHeader, WritesRecords}
-use Rattle.ether_make.specs.Frames.{FrameValue, padded}
+use Rattle.ether_make.specs.Frames.{FrameValue}
 
 -- times in nanoseconds, a snap length of 256 KiB, and no length of a check sequence
 abbrev pub header_of_capture : (link : ℕ) → FileHeaderValue
@@ -50,18 +50,11 @@ abbrev pub IsTheCapture : (frames : List FrameValue) → (bytes : List ℕ) → 
 IsTheCapture [] bytes = IsCaptureOf 1 [] bytes
 IsTheCapture (f ∷ fs) bytes = IsCaptureOf f.link (f ∷ fs) bytes
 
--- .. with padding, if that is asked for
-abbrev pub IsPaddedCapture : (pad : Bool) → (frames : List FrameValue) → (bytes : List ℕ) → Type 0
-IsPaddedCapture pad frames bytes = IsTheCapture (map (padded pad) frames) bytes
-
 -- what is written before the end: nothing before the first frame, since the file header has its link type
 pub data IsBegun : (link : Option ℕ) → (frames : List FrameValue) → (bytes : List ℕ) → Type 0 where
   nothing : IsBegun None [] []
   some : (f : FrameValue) (fs : List FrameValue) (bytes : List ℕ) → IsCaptureOf f.link (f ∷ fs) bytes
       → IsBegun (Some f.link) (f ∷ fs) bytes
-
-abbrev pub IsPaddedBegun : (pad : Bool) → (link : Option ℕ) → (frames : List FrameValue) → (bytes : List ℕ) → Type 0
-IsPaddedBegun pad link frames bytes = IsBegun link (map (padded pad) frames) bytes
 
 -- a writer takes bytes that are such a part of a capture
 pub record WritesPart (IsPart : List ℕ → Type 0) (held holds : Option (List ℕ)) : Type 0 where
@@ -69,16 +62,17 @@ pub record WritesPart (IsPart : List ℕ → Type 0) (held holds : Option (List 
   pub is_part : IsPart part
   pub written : Appends held holds part
 
--- a writer takes one frame more
-pub record Grows (link after : Option ℕ) (frame : FrameValue) (held holds : Option (List ℕ)) : Type 0 where
+-- a writer takes one frame more, after those for which `IsBegun` holds
+pub record Grows (IsBegun : Option ℕ → List FrameValue → List ℕ → Type 0) (link after : Option ℕ) (frame : FrameValue)
+    (held holds : Option (List ℕ)) : Type 0 where
   pub more : List ℕ
   pub written : Appends held holds more
   pub begun : (frames : List FrameValue) (bytes : List ℕ) → IsBegun link frames bytes
       → IsBegun after (frames ++ frame ∷ []) (bytes ++ more)
 
 -- a writer takes what is missing at the end
-pub record Ends (link : Option ℕ) (held holds : Option (List ℕ)) : Type 0 where
+pub record Ends (IsBegun : Option ℕ → List FrameValue → List ℕ → Type 0) (IsWhole : List FrameValue → List ℕ → Type 0)
+    (link : Option ℕ) (held holds : Option (List ℕ)) : Type 0 where
   pub more : List ℕ
   pub written : Appends held holds more
-  pub whole : (frames : List FrameValue) (bytes : List ℕ) → IsBegun link frames bytes
-      → IsTheCapture frames (bytes ++ more)
+  pub whole : (frames : List FrameValue) (bytes : List ℕ) → IsBegun link frames bytes → IsWhole frames (bytes ++ more)

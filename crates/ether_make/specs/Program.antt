@@ -1,11 +1,13 @@
 -- What a run of the program makes of its input.
-use Rattle.std.specs.Prelude.{◌≡◌, ℕ, ◌<◌, List, [], ◌∷◌, ◌++◌, length, Bool, true, false, All, ◌≢◌, None, Option, Some, IfSome, Ok, Err, if◌then◌else◌}
+use Rattle.std.specs.Prelude.{◌≡◌, ℕ, ◌<◌, List, [], ◌∷◌, ◌++◌, length, Bool, false, All, ◌≢◌, None, Option, Some, IfSome, Ok, Err, if◌then◌else◌}
 use Rattle.std.specs.Io.KnownBytes.{Appends, Consumes, IsAtEnd}
 use Rattle.std.specs.Io.{StopsAt}
-use Rattle.ether_make.specs.Captures.{Grows, IsBegun, IsTheCapture}
-use Rattle.ether_make.specs.Frames.{FrameValue, padded}
+use Rattle.ether_make.specs.Captures.{Grows}
+use Rattle.ether_make.specs.Frames.{FrameValue}
 use Rattle.ether_make.specs.Lines.{LineMeans, LineRefusal, LinesMean, lines_in, linked}
 use Rattle.ether_make.specs.LineViews.{IfTold, fault_view}
+use Rattle.ether_make.specs.Outputs.{IsBegunAs, finished}
+use Rattle.ether_make.specs.declared.settings.Settings.{Settings}
 use Rattle.ether_make.specs.declared.lines.Stop.{Stop}
 use Rattle.ether_make.specs.declared.program.RunFault.{RunFault}
 use Rattle.ether_make.specs.declared.program.RunFault.TheVariants.{Input, Line, Output}
@@ -67,11 +69,12 @@ pub record BreaksLine (before after : Option (List ℕ)) (line : List ℕ) : Typ
   pub one_line : StopsAt line 10
 
 -- a writer takes the frame of a line, or nothing of an empty one
-pub data TakesLine (pad : Bool) (text : List ℕ) (held holds : Option (List ℕ)) : (link after : Option ℕ) → Type 0 where
-  empty : (link : Option ℕ) → length text ≡ 0 → Appends held holds [] → TakesLine pad text held holds link link
+pub data TakesLine (settings : Settings) (text : List ℕ) (held holds : Option (List ℕ))
+    : (link after : Option ℕ) → Type 0 where
+  empty : (link : Option ℕ) → length text ≡ 0 → Appends held holds [] → TakesLine settings text held holds link link
   frame : (link : Option ℕ) (frame : FrameValue) → 0 < length text → LineMeans link text (Ok frame)
-      → Grows link (linked link frame) (padded pad frame) held holds
-      → TakesLine pad text held holds link (linked link frame)
+      → Grows (IsBegunAs settings.form) link (linked link frame) (finished settings frame) held holds
+      → TakesLine settings text held holds link (linked link frame)
 
 -- a line is refused, or there is no memory, and nothing is written
 pub record RefusesLine (number : ℕ) (text : List ℕ) (held holds : Option (List ℕ)) (link after : Option ℕ) (stop : Stop)

@@ -1,6 +1,6 @@
 //! The capture of frames, written frame by frame.
 ghost use Rattle.std.specs.Prelude.{◌≡◌, ◌≤◌, length, OnOk};
-ghost use Rattle.ether_make.specs.Captures.{Ends, Grows, IsHeaderOf, IsRecordOf, WritesPart};
+ghost use Rattle.ether_make.specs.Captures.{Ends, Grows, IsBegun, IsHeaderOf, IsRecordOf, IsTheCapture, WritesPart};
 ghost use Rattle.ether_make.specs.FrameViews.{frame_view};
 ghost use Rattle.ether_make.specs.Lines.{linked, longest};
 
@@ -18,7 +18,7 @@ pub fn write_frame<W: Write>(
 ) -> io::Result<()>
     ensures link { OnOk result (link.new ≡ linked link.old (frame_view frame.now)) }
     ensures grows { OnOk result (length frame.now.bytes.items ≤ longest
-        → Grows link.old (linked link.old (frame_view frame.now)) (frame_view frame.now)
+        → Grows IsBegun link.old (linked link.old (frame_view frame.now)) (frame_view frame.now)
         (W.contents writer.old) (W.contents writer.new)) }
 {
     match *link {
@@ -37,7 +37,7 @@ pub fn write_frame<W: Write>(
 
 /// Writes what is missing at the end: the file header, if there is no frame.
 pub fn write_end<W: Write>(writer: &mut W, link: Option<u16>) -> io::Result<()>
-    ensures { OnOk result (Ends link (W.contents writer.old) (W.contents writer.new)) }
+    ensures { OnOk result (Ends IsBegun IsTheCapture link (W.contents writer.old) (W.contents writer.new)) }
 {
     match link {
         None => {

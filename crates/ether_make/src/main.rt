@@ -10,17 +10,21 @@ pub mod capture;
 pub mod field_bits;
 pub mod frame;
 pub mod header;
+pub mod hex;
 pub mod laws;
 pub mod lines;
 pub mod objects;
+pub mod output;
 pub mod program;
 pub mod refusal;
+pub mod settings;
 pub mod sizes;
 pub mod texts;
 pub mod time_text;
 
 use lines::Stop;
 use program::RunFault;
+use settings::{Form, Settings};
 use std::env;
 use std::io::{BufWriter, ErrorKind};
 use std::process::ExitCode;
@@ -51,17 +55,24 @@ fn main(rt: HostRuntime) -> ExitCode {
     let Ok(args) = env::args(&rt) else {
         return ExitCode::from(4);
     };
-    let mut pad = false;
+    let mut settings = Settings {
+        pad: false,
+        fcs: false,
+        form: Form::Capture,
+        count: None,
+        seed: 0,
+        rate: None,
+    };
     for word in args.skip(1) {
         if word.as_str() != "--pad" {
             return about(rt, word.as_str());
         }
-        pad = true;
+        settings.pad = true;
     }
     let Ok(mut writer) = BufWriter::new(rt.alloc(), rt.stdout()) else {
         return ExitCode::from(tell(rt, &RunFault::Line(Stop::MEMORY)));
     };
-    match program::run(rt.alloc(), pad, &mut rt.reader(), &mut writer) {
+    match program::run(rt.alloc(), &settings, &mut rt.reader(), &mut writer) {
         Ok(()) => ExitCode::from(0),
         Err(fault) => ExitCode::from(tell(rt, &fault)),
     }

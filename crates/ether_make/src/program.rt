@@ -1,12 +1,12 @@
 //! What a run of the program makes of its input.
 ghost use Rattle.std.specs.Prelude.{◌≡◌, None, IfOk, IfErr, OnErr, OnOk};
-ghost use Rattle.ether_make.specs.Captures.{IsPaddedBegun, IsPaddedCapture};
 ghost use Rattle.ether_make.specs.Messages.{fault_status};
+ghost use Rattle.ether_make.specs.Outputs.{IsOutput, IsOutputBegun};
 ghost use Rattle.ether_make.specs.Program.{AfterFault, AfterTaking, BreaksLine, HasMade, ReadsLine, TakesLine};
 
-use crate::capture::{write_end, write_frame};
-use crate::frame::padded;
 use crate::lines::{LineFault, Stop, line_frame};
+use crate::output::{finished, write_end, write_frame};
+use crate::settings::Settings;
 use std::alloc::Global;
 use std::io::{BufRead, Write};
 use std::{fmt, io};
@@ -22,23 +22,23 @@ pub enum RunFault {
     Output(io::Error),
 }
 
-/// Makes the frames of the lines of a reader, and writes their capture. Each frame is written before the next line is
-/// read. A line that means no frame ends the run; the capture has the frames of the lines before it.
+/// Makes the frames of the lines of a reader, and writes them. Each frame is written before the next line is
+/// read. A line that means no frame ends the run; the output has the frames of the lines before it.
 pub fn run<R: BufRead, W: Write>(
     alloc: Global,
-    pad: bool,
+    settings: &Settings,
     reader: &mut R,
     writer: &mut W,
 ) -> Result<(), RunFault>
-    ensures made { OnOk result (HasMade (IsPaddedCapture pad) (R.remaining reader.old) (R.remaining reader.new)
+    ensures made { OnOk result (HasMade (IsOutput settings.now) (R.remaining reader.old) (R.remaining reader.new)
         (W.contents writer.old) (W.contents writer.new)) }
-    ensures fault { IfErr result (AfterFault (IsPaddedCapture pad) (R.remaining reader.old) (R.remaining reader.new)
+    ensures fault { IfErr result (AfterFault (IsOutput settings.now) (R.remaining reader.old) (R.remaining reader.new)
         (W.contents writer.old) (W.contents writer.new)) }
 {
     let mut link = None;
-    match make_lines(alloc, pad, reader, writer, &mut link) {
+    match make_lines(alloc, settings, reader, writer, &mut link) {
         Err(RunFault::Output(error)) => Err(RunFault::Output(error)),
-        ending => match write_end(writer, link) {
+        ending => match write_end(settings, writer, link) {
             Ok(()) => ending,
             Err(error) => Err(RunFault::Output(error)),
         },
@@ -48,16 +48,16 @@ pub fn run<R: BufRead, W: Write>(
 /// Makes the frames of all lines, and writes them.
 fn make_lines<R: BufRead, W: Write>(
     alloc: Global,
-    pad: bool,
+    settings: &Settings,
     reader: &mut R,
     writer: &mut W,
     link: &mut Option<u16>,
 ) -> Result<(), RunFault>
     requires { link.old ≡ None }
-    ensures made { OnOk result (HasMade (IsPaddedBegun pad link.new) (R.remaining reader.old) (R.remaining reader.new)
-        (W.contents writer.old) (W.contents writer.new)) }
-    ensures fault { IfErr result (AfterFault (IsPaddedBegun pad link.new) (R.remaining reader.old) (R.remaining reader.new)
-        (W.contents writer.old) (W.contents writer.new)) }
+    ensures made { OnOk result (HasMade (IsOutputBegun settings.now link.new) (R.remaining reader.old)
+        (R.remaining reader.new) (W.contents writer.old) (W.contents writer.new)) }
+    ensures fault { IfErr result (AfterFault (IsOutputBegun settings.now link.new) (R.remaining reader.old)
+        (R.remaining reader.new) (W.contents writer.old) (W.contents writer.new)) }
 {
     let mut line = Vec::new(alloc);
     for number in 1..usize::MAX {
@@ -65,7 +65,7 @@ fn make_lines<R: BufRead, W: Write>(
             Ok(is_ended) => is_ended,
             Err(error) => return Err(RunFault::Input(error)),
         };
-        if let Err(fault) = take_line(alloc, pad, number, &line, writer, link) {
+        if let Err(fault) = take_line(alloc, settings, number, &line, writer, link) {
             return Err(fault);
         }
         if !is_ended {
@@ -95,13 +95,13 @@ fn read_line<R: BufRead>(reader: &mut R, line: &mut Vec<u8>) -> io::Result<bool>
 /// Makes the frame of a line, and writes it. An empty line means nothing.
 fn take_line<W: Write>(
     alloc: Global,
-    pad: bool,
+    settings: &Settings,
     number: usize,
     text: &[u8],
     writer: &mut W,
     link: &mut Option<u16>,
 ) -> Result<(), RunFault>
-    ensures taken { OnOk result (TakesLine pad text.now (W.contents writer.old) (W.contents writer.new)
+    ensures taken { OnOk result (TakesLine settings.now text.now (W.contents writer.old) (W.contents writer.new)
         link.old link.new) }
     ensures fault { IfErr result (AfterTaking number text.now (W.contents writer.old) (W.contents writer.new)
         link.old link.new) }
@@ -118,13 +118,13 @@ fn take_line<W: Write>(
             }));
         }
     };
-    let Ok(frame) = padded(frame, pad) else {
+    let Ok(frame) = finished(settings, frame) else {
         return Err(RunFault::Line(Stop {
             line: number,
             fault: LineFault::Memory,
         }));
     };
-    match write_frame(writer, link, &frame) {
+    match write_frame(settings, writer, link, &frame) {
         Ok(()) => Ok(()),
         Err(error) => Err(RunFault::Output(error)),
     }

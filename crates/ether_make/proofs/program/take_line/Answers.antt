@@ -20,6 +20,7 @@ returns-in-Err-clause-fault g c = record {
 
 pub returns-in-Ok-write_frame-clause-taken : goal.returns-in-Ok-write_frame-clause-taken
 returns-in-Ok-write_frame-clause-taken g c =
-    line-taken c.args.pad c.args.text.now _ _ _ _ (frame_view c.in-Ok.frame) (frame_view c.in-Ok-padded.frame)
-    (not_empty _ c.if-is_empty.ensures) c.in-Ok.ensures c.in-Ok-padded.ensures c.in-Ok-write_frame.ensures.link
+    let frame = frame_view c.in-Ok.frame in
+    line-taken c.args.settings.now c.args.text.now _ _ _ _ frame (frame_view c.in-Ok-finished.frame)
+    (not_empty _ c.if-is_empty.ensures) c.in-Ok.ensures c.in-Ok-finished.ensures c.in-Ok-write_frame.ensures.link
     c.in-Ok-write_frame.ensures.grows
