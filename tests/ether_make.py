@@ -15,6 +15,7 @@ import shutil
 import struct
 import subprocess
 import sys
+import zlib
 from dataclasses import dataclass
 
 from programs import count
@@ -260,9 +261,20 @@ def made(program, lines, *words):
     return done.stdout, done.stderr.decode(), done.returncode
 
 
-def capture_of(frames, link=1, time=(0, 0)):
-    """A capture whose frames all have one time (draft-ietf-opsawg-pcap, sections 4 and 5)."""
-    return struct.pack("<IHHIIII", 0xA1B23C4D, 2, 4, 0, 0, 262_144, link) + b"".join(struct.pack("<IIII", *time, len(frame), len(frame)) + frame for frame in frames)
+def made_text(program, lines, *words):
+    output, said, status = made(program, lines, *words)
+    return output.decode(), said, status
+
+
+def checked(frame):
+    return frame + struct.pack("<I", zlib.crc32(frame))
+
+
+def capture_of(frames, link=1, time=(0, 0), fcs=None):
+    """A capture whose frames all have one time and a check sequence of this length (draft-ietf-opsawg-pcap, sections 4 and 5)."""
+    word = link if fcs is None else link | 1 << 26 | fcs // 2 << 28
+    return struct.pack("<IHHIIII", 0xA1B23C4D, 2, 4, 0, 0, 262_144, word) + b"".join(
+        struct.pack("<IIII", *time, min(len(frame), 262_144), len(frame)) + frame[:262_144] for frame in frames)
 
 
 def frames_of(capture):
@@ -307,6 +319,30 @@ def padded_cases(program):
     yield "padding before a refusal", said, (capture_of([bytes.fromhex(ADDRESSES + "0000").ljust(60, b"\0")]), "ether_make: line 2: this is no JSON text\n", 3)
 
 
+def checked_cases(program):
+    """Check sequences of Ethernet (IEEE 802.3, 3.2.9): those of zlib, the least significant byte first."""
+    for length in (0, 1, 45, 46, 47, 1500, 262_126, 262_130):
+        frame = bytes.fromhex(ADDRESSES + "0000") + b"\xff" * length
+        lines = line(ETH, rest={"bytes": "ff" * length})
+        yield f"{length} bytes and a check sequence", made(program, lines, "--fcs"), (capture_of([checked(frame)], fcs=4), "", 0)
+        yield f"{length} bytes, padding and a check sequence", made(program, lines, "--fcs", "--pad"), (capture_of([checked(frame.ljust(60, b"\0"))], fcs=4), "", 0)
+    yield "no header and a check sequence", made(program, line(), "--fcs"), (capture_of([bytes(4)], fcs=4), "", 0)
+    yield "the check value of CRC-32", made(program, line(rest={"bytes": b"123456789".hex()}), "--fcs"), (capture_of([b"123456789" + bytes.fromhex("2639f4cb")], fcs=4), "", 0)
+    yield "no frame and check sequences", made(program, "", "--fcs"), (capture_of([], fcs=4), "", 0)
+    cooked = bytes.fromhex("0000" "0001" "0006" "0000000000000000" "0000")
+    yield "no check sequence of a cooked frame", made(program, line({"header": "sll"}), "--fcs"), (capture_of([cooked], 113), "", 0)
+
+
+def hex_cases(program):
+    """Lines of hexadecimal digits."""
+    lines = line(ETH) + "\n" + line(rest={"bytes": "00ABff"}) + line()
+    yield "lines of hex", made_text(program, lines, "--hex"), (ADDRESSES + "0000\n00abff\n\n", "", 0)
+    yield "lines of hex, padding and check sequences", made_text(program, line(ETH), "--hex", "--pad", "--fcs"), (
+        checked(bytes.fromhex(ADDRESSES + "0000").ljust(60, b"\0")).hex() + "\n", "", 0)
+    yield "no line of hex", made_text(program, "", "--hex"), ("", "", 0)
+    yield "lines of hex before a refusal", made_text(program, line(ETH) + "x\n", "--hex"), (ADDRESSES + "0000\n", "ether_make: line 2: this is no JSON text\n", 3)
+
+
 def refused_cases(program):
     for case in REFUSED:
         before = capture_of([bytes.fromhex(it) for it in case.frames], case.link)
@@ -320,7 +356,7 @@ def word_cases(program):
 
     with open(os.path.join(os.path.dirname(os.path.abspath(__file__)), "..", "VERSION"), encoding="utf-8") as file:
         yield "--version", said("--version"), (f"ether_make {file.read().strip()}\n", "", 0)
-    yield "--help", said("--help")[0].splitlines()[0], "Usage: ether_make [--pad] < LINES > CAPTURE"
+    yield "--help", said("--help")[0].splitlines()[0], "Usage: ether_make [--pad] [--fcs] [--hex] < LINES > CAPTURE"
     with subprocess.Popen([program], stdin=subprocess.PIPE, stdout=subprocess.PIPE, stderr=subprocess.PIPE) as closed:
         closed.stdout.close()
         closed.stdin.write(line(ETH).encode())
@@ -334,7 +370,7 @@ def word_cases(program):
     done = subprocess.run([program], stdin=folder, capture_output=True, check=False)
     os.close(folder)
     yield "a folder", (done.stdout, done.stderr, done.returncode), (capture_of([]), b"ether_make: standard input: Is a directory (os error 21)\n", 4)
-    yield "a wrong word", said("--hex"), ("", "ether_make: --hex: there is no such word; try --help\n", 2)
+    yield "a wrong word", said("--hax"), ("", "ether_make: --hax: there is no such word; try --help\n", 2)
 
 
 def scapy_cases(program):
@@ -374,6 +410,10 @@ def tshark_cases(program):
     request = made(program, FRAMES[10].lines)[0]
     read = subprocess.run(words, input=request, capture_output=True, check=False)
     yield "tshark's ARP request", read.stdout.decode(), "42\t02:00:00:00:00:01\t\t10.9.0.2\n"
+    capture = made(program, line(ETH, rest={"bytes": "ff" * 50}) + line(ETH, {"header": "arp"}), "--fcs", "--pad")[0]
+    words = ["tshark", "-o", "eth.check_fcs:TRUE", "-r", "-", "-T", "fields", "-e", "frame.len", "-e", "eth.fcs.status"]
+    read = subprocess.run(words, input=capture, capture_output=True, check=False)
+    yield "tshark's check sequences", read.stdout.decode(), "68\t1\n64\t1\n"
     example = next(case for case in FRAMES if "example of MACsec" in case.name)
     sll = {"header": "sll", "packet_type": 4, "addr": "02:00:00:00:00:01"}
     sll2 = {"header": "sll2", "if_index": 7, "packet_type": 4, "addr": "02:00:00:00:00:01"}
@@ -435,7 +475,7 @@ def main():
     words.add_argument("--capture", metavar="PROGRAM", help="the program ether_capture; without it, the one that is built next to PROGRAM")
     given = words.parse_args()
     capture = given.capture or os.path.join(os.path.dirname(given.program), "..", "..", "ether_capture", "out", "ether_capture")
-    cases = [*frame_cases(given.program), *memory_cases(given.program), *padded_cases(given.program), *refused_cases(given.program), *word_cases(given.program),
+    cases = [*frame_cases(given.program), *memory_cases(given.program), *padded_cases(given.program), *checked_cases(given.program), *hex_cases(given.program), *refused_cases(given.program), *word_cases(given.program),
              *scapy_cases(given.program), *tshark_cases(given.program),
              *printed_cases(given.program, capture), *sent_cases(given.program)]
     return count((name, got, wanted) for name, got, wanted in cases if given.word in name)

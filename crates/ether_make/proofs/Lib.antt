@@ -5,6 +5,7 @@ pub mod HeaderLemmas
 pub mod FrameLemmas
 pub mod LineLemmas
 pub mod CaptureLemmas
+pub mod CheckLemmas
 pub mod OutputLemmas
 pub mod ReadLemmas
 pub mod ProgramLemmas

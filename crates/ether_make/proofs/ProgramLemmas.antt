@@ -1,11 +1,10 @@
 -- A run, line by line.
-use Rattle.std.proofs.Common.{◌≡◌, ◌≢◌, ℕ, ◌+◌, ◌-◌, ◌<◌, ◌≤◌, List, [], ◌∷◌, ◌++◌, length, map, Option, Some, None, IfSome, Ok, Err, Bool, true, false, All, refl, sym, ap, subst, ◌∙◌, arith, append_assoc}
+use Rattle.std.proofs.Common.{◌≡◌, ◌≢◌, ℕ, ◌+◌, ◌-◌, ◌^◌, ◌<◌, List, [], ◌∷◌, ◌++◌, length, map, Option, Some, None, IfSome, Ok, Err, Bool, true, false, All, refl, sym, ap, subst, ◌∙◌, arith, append_assoc}
 use Rattle.std.proofs.lemmas.List.{append-nil, map-append, take_at, length_push}
 use Rattle.std.proofs.lemmas.List.Elements.{All-take}
 use Rattle.std.proofs.KnownBytes.{Consumes-nil, Consumes-trans, Appends-nil, Appends-trans}
 use Rattle.std.specs.Io.KnownBytes.{Appends, Consumes, IsAtEnd}
 use Rattle.std.specs.Io.{StopsAt}
-use Rattle.ether_pcap.specs.Record.{max_captured_len}
 use Rattle.ether_make.specs.Captures.{Ends, Grows}
 use Rattle.ether_make.specs.Frames.{FrameValue}
 use Rattle.ether_make.specs.Outputs.{IsBegunAs, IsOutput, IsOutputBegun, IsWrittenAs, finished}
@@ -39,7 +38,7 @@ doing-begin settings before held = record {
   frames = [];
   bytes = [];
   read = Consumes-nil before;
-  begun = begun-nothing settings.form;
+  begun = begun-nothing settings.form settings.fcs;
   written = Appends-nil held;
   means = λ later more stop h. h;
 }
@@ -86,27 +85,30 @@ ended_means number after link linked text line frames new one means step later m
     (step (lines_in later) more stop h))))
 
 grown : (settings : Settings) (link after : Option ℕ) (f : FrameValue) (frames : List FrameValue) (bytes more : List ℕ)
-    → IsBegunAs settings.form after (map (finished settings) frames ++ finished settings f ∷ []) (bytes ++ more)
+    → IsBegunAs settings.form settings.fcs after (map (finished settings) frames ++ finished settings f ∷ [])
+    (bytes ++ more)
     → IsOutputBegun settings after (frames ++ f ∷ []) (bytes ++ more)
 grown settings link after f frames bytes more h =
-    subst (λ (fs : List FrameValue). IsBegunAs settings.form after fs (bytes ++ more))
+    subst (λ (fs : List FrameValue). IsBegunAs settings.form settings.fcs after fs (bytes ++ more))
     (sym (map-append (finished settings) frames (f ∷ []))) h
 
 -- what is written of a frame of a line, which is finished
 pub line-taken : (settings : Settings) (text : List ℕ) (held holds : Option (List ℕ)) (link after : Option ℕ)
     (f made : FrameValue) → 0 < length text
     → LineMeans link text (Ok f) → made ≡ finished settings f → after ≡ linked link made
-    → (length made.packet ≤ max_captured_len → Grows (IsBegunAs settings.form) link (linked link made) made held holds)
+    → (length made.packet < 2 ^ 32 → Grows (IsBegunAs settings.form settings.fcs) link (linked link made) made held
+    holds)
     → TakesLine settings text held holds link after
 line-taken settings text held holds link after f made some means is linked_is grows =
-    let fit : length made.packet ≤ max_captured_len =
-    subst (λ (x : FrameValue). length x.packet ≤ max_captured_len) (sym is)
+    let fit : length made.packet < 2 ^ 32 =
+    subst (λ (x : FrameValue). length x.packet < 2 ^ 32) (sym is)
     (finished-fits settings f (line-fits link text f means)) in
     let same : linked link made ≡ linked link f = ap (linked link) is ∙ finished-linked settings link f in
     subst (λ (l : Option ℕ). TakesLine settings text held holds link l) (sym (linked_is ∙ same))
     (frame link f some means
-    (subst (λ (l : Option ℕ). Grows (IsBegunAs settings.form) link l (finished settings f) held holds) same
-    (subst (λ (x : FrameValue). Grows (IsBegunAs settings.form) link (linked link made) x held holds) is (grows fit))))
+    (subst (λ (l : Option ℕ). Grows (IsBegunAs settings.form settings.fcs) link l (finished settings f) held holds) same
+    (subst (λ (x : FrameValue). Grows (IsBegunAs settings.form settings.fcs) link (linked link made) x held holds) is
+    (grows fit))))
 
 pub doing-line : (settings : Settings) (before now after held mid holds : Option (List ℕ)) (number : ℕ) (line : List ℕ)
     (link linked : Option ℕ) → Doing settings before now held mid number link → ReadsLine now after line true
@@ -288,8 +290,8 @@ doing-fault settings before now after held mid holds number link linked line is_
 
 ran-ends : (settings : Settings) (link : Option ℕ) (before after held mid holds : Option (List ℕ))
     (stop : Option (ℕ × LineRefusal)) (part : List ℕ)
-    → Ran (IsOutputBegun settings link) before after held mid stop part → Ends (IsBegunAs settings.form)
-    (IsWrittenAs settings.form) link mid holds
+    → Ran (IsOutputBegun settings link) before after held mid stop part → Ends (IsBegunAs settings.form settings.fcs)
+    (IsWrittenAs settings.form settings.fcs) link mid holds
     → Ran (IsOutput settings) before after held holds stop part
 ran-ends settings link before after held mid holds stop part r e = record {
   text = r.text;
@@ -302,8 +304,8 @@ ran-ends settings link before after held mid holds stop part r e = record {
 }
 
 pub made-ends : (settings : Settings) (link : Option ℕ) (before after held mid holds : Option (List ℕ))
-    → HasMade (IsOutputBegun settings link) before after held mid → Ends (IsBegunAs settings.form)
-    (IsWrittenAs settings.form) link mid holds
+    → HasMade (IsOutputBegun settings link) before after held mid → Ends (IsBegunAs settings.form settings.fcs)
+    (IsWrittenAs settings.form settings.fcs) link mid holds
     → HasMade (IsOutput settings) before after held holds
 made-ends settings link before after held mid holds m e = record {
   ran = ran-ends settings link before after held mid holds None [] m.ran e;
@@ -311,8 +313,8 @@ made-ends settings link before after held mid holds m e = record {
 }
 
 broken-ends : (settings : Settings) (link : Option ℕ) (before after held mid holds : Option (List ℕ))
-    → HasBroken (IsOutputBegun settings link) before after held mid → Ends (IsBegunAs settings.form)
-    (IsWrittenAs settings.form) link mid holds
+    → HasBroken (IsOutputBegun settings link) before after held mid → Ends (IsBegunAs settings.form settings.fcs)
+    (IsWrittenAs settings.form settings.fcs) link mid holds
     → HasBroken (IsOutput settings) before after held holds
 broken-ends settings link before after held mid holds b e = record {
   part = b.part;
@@ -322,7 +324,7 @@ broken-ends settings link before after held mid holds b e = record {
 
 line-ends : (settings : Settings) (link : Option ℕ) (before after held mid holds : Option (List ℕ)) (line : ℕ)
     (told : Option LineRefusal) → AfterLine (IsOutputBegun settings link) before after held mid line told
-    → Ends (IsBegunAs settings.form) (IsWrittenAs settings.form) link mid holds
+    → Ends (IsBegunAs settings.form settings.fcs) (IsWrittenAs settings.form settings.fcs) link mid holds
     → AfterLine (IsOutput settings) before after held holds line told
 line-ends settings link before after held mid holds line None h e = broken-ends settings link before after held mid
     holds h e
@@ -331,8 +333,8 @@ line-ends settings link before after held mid holds line (Some r) h e =
 
 pub fault-ends : (settings : Settings) (link : Option ℕ) (before after held mid holds : Option (List ℕ))
     (fault : RunFault)
-    → AfterFault (IsOutputBegun settings link) before after held mid fault → Ends (IsBegunAs settings.form)
-    (IsWrittenAs settings.form) link mid holds
+    → AfterFault (IsOutputBegun settings link) before after held mid fault → Ends (IsBegunAs settings.form settings.fcs)
+    (IsWrittenAs settings.form settings.fcs) link mid holds
     → AfterFault (IsOutput settings) before after held holds fault
 fault-ends settings link before after held mid holds (runs.Line stop) h e =
     line-ends settings link before after held mid holds stop.line (fault_view stop.fault) h e

@@ -11,6 +11,7 @@ pub mod FrameViews
 pub mod Lines
 pub mod LineViews
 pub mod Captures
+pub mod CheckSequences
 pub mod Outputs
 pub mod Program
 pub mod Messages

@@ -73,7 +73,7 @@ pub data TakesLine (settings : Settings) (text : List ℕ) (held holds : Option 
     : (link after : Option ℕ) → Type 0 where
   empty : (link : Option ℕ) → length text ≡ 0 → Appends held holds [] → TakesLine settings text held holds link link
   frame : (link : Option ℕ) (frame : FrameValue) → 0 < length text → LineMeans link text (Ok frame)
-      → Grows (IsBegunAs settings.form) link (linked link frame) (finished settings frame) held holds
+      → Grows (IsBegunAs settings.form settings.fcs) link (linked link frame) (finished settings frame) held holds
       → TakesLine settings text held holds link (linked link frame)
 
 -- a line is refused, or there is no memory, and nothing is written

@@ -1,8 +1,8 @@
 //! The capture of frames, written frame by frame.
-ghost use Rattle.std.specs.Prelude.{◌≡◌, ◌≤◌, length, OnOk};
-ghost use Rattle.ether_make.specs.Captures.{Ends, Grows, IsBegun, IsHeaderOf, IsRecordOf, IsTheCapture, WritesPart};
+ghost use Rattle.std.specs.Prelude.{◌≡◌, ◌<◌, ◌^◌, length, OnOk};
+ghost use Rattle.ether_make.specs.Captures.{Ends, Grows, IsBegun, IsHeaderOf, IsRecordOf, IsTheCapture, WritesPart, captured as captured_in, fcs_len as fcs_len_in};
 ghost use Rattle.ether_make.specs.FrameViews.{frame_view};
-ghost use Rattle.ether_make.specs.Lines.{linked, longest};
+ghost use Rattle.ether_make.specs.Lines.{linked};
 
 use crate::frame::Frame;
 use ether_pcap::{ByteOrder, FileHeader, LinkType, PcapRecord, TimestampResolution};
@@ -10,20 +10,21 @@ use std::io;
 use std::io::Write;
 
 /// Writes a frame to a capture whose frames so far have this link type. Before the first frame the file header is
-/// written. A frame should have at most 262,144 bytes.
+/// written, which says whether frames of Ethernet have check sequences.
 pub fn write_frame<W: Write>(
     writer: &mut W,
+    fcs: bool,
     link: &mut Option<u16>,
     frame: &Frame,
 ) -> io::Result<()>
     ensures link { OnOk result (link.new ≡ linked link.old (frame_view frame.now)) }
-    ensures grows { OnOk result (length frame.now.bytes.items ≤ longest
-        → Grows IsBegun link.old (linked link.old (frame_view frame.now)) (frame_view frame.now)
+    ensures grows { OnOk result (length frame.now.bytes.items < 2 ^ 32
+        → Grows (IsBegun fcs) link.old (linked link.old (frame_view frame.now)) (frame_view frame.now)
         (W.contents writer.old) (W.contents writer.new)) }
 {
     match *link {
         None => {
-            write_header(writer, frame.link)?;
+            write_header(writer, fcs, frame.link)?;
             write_record(writer, frame)?;
             *link = Some(frame.link);
             Ok(())
@@ -36,12 +37,12 @@ pub fn write_frame<W: Write>(
 }
 
 /// Writes what is missing at the end: the file header, if there is no frame.
-pub fn write_end<W: Write>(writer: &mut W, link: Option<u16>) -> io::Result<()>
-    ensures { OnOk result (Ends IsBegun IsTheCapture link (W.contents writer.old) (W.contents writer.new)) }
+pub fn write_end<W: Write>(writer: &mut W, fcs: bool, link: Option<u16>) -> io::Result<()>
+    ensures { OnOk result (Ends (IsBegun fcs) (IsTheCapture fcs) link (W.contents writer.old) (W.contents writer.new)) }
 {
     match link {
         None => {
-            write_header(writer, 1)?;
+            write_header(writer, fcs, 1)?;
             writer.flush()?;
             Ok(())
         }
@@ -53,32 +54,50 @@ pub fn write_end<W: Write>(writer: &mut W, link: Option<u16>) -> io::Result<()>
 }
 
 /// Writes a file header: times are in nanoseconds.
-fn write_header<W: Write>(writer: &mut W, link: u16) -> io::Result<()>
-    ensures { OnOk result (WritesPart (IsHeaderOf link) (W.contents writer.old) (W.contents writer.new)) }
+fn write_header<W: Write>(writer: &mut W, fcs: bool, link: u16) -> io::Result<()>
+    ensures { OnOk result (WritesPart (IsHeaderOf fcs link) (W.contents writer.old) (W.contents writer.new)) }
 {
     let header = FileHeader {
         byte_order: ByteOrder::LittleEndian,
         resolution: TimestampResolution::Nanoseconds,
         snap_len: PcapRecord::MAX_CAPTURED_LEN,
         link_type: LinkType(link),
-        fcs_len: None,
+        fcs_len: fcs_len(fcs, link),
     };
     writer.write_all(&header.to_bytes())?;
     Ok(())
 }
 
-/// Writes the record of a frame.
+/// Writes the record of a frame, which is cut at the snap length.
 fn write_record<W: Write>(writer: &mut W, frame: &Frame) -> io::Result<()>
-    ensures { OnOk result (length frame.now.bytes.items ≤ longest
+    ensures { OnOk result (length frame.now.bytes.items < 2 ^ 32
         → WritesPart (IsRecordOf (frame_view frame.now)) (W.contents writer.old) (W.contents writer.new)) }
 {
+    let packet = captured(frame.bytes.as_slice());
     let record = PcapRecord {
         seconds: frame.time.seconds,
         fraction: frame.time.nanoseconds,
-        original_len: frame.bytes.len().min(262_144) as u32,
-        packet: frame.bytes.as_slice(),
+        original_len: frame.bytes.len().min(0xFFFF_FFFF) as u32,
+        packet,
     };
     writer.write_all(&record.header_to_bytes(ByteOrder::LittleEndian))?;
-    writer.write_all(frame.bytes.as_slice())?;
+    writer.write_all(packet)?;
     Ok(())
+}
+
+/// What a capture has of a packet.
+fn captured(packet: &[u8]) -> &[u8]
+    ensures { result.now ≡ captured_in packet.now }
+{
+    if packet.len() > 262_144 {
+        return &packet[..262_144];
+    }
+    packet
+}
+
+/// The length of the check sequence, for frames of Ethernet.
+fn fcs_len(fcs: bool, link: u16) -> Option<u8>
+    ensures { result ≡ fcs_len_in fcs link }
+{
+    if fcs && link == 1 { Some(4) } else { None }
 }

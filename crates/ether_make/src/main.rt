@@ -7,6 +7,7 @@
 
 pub mod bits;
 pub mod capture;
+pub mod check_sequence;
 pub mod field_bits;
 pub mod frame;
 pub mod header;
@@ -34,7 +35,7 @@ const VERSION: &str = "ether_make 3.0.0";
 
 /// What `--help` prints.
 const HELP: &str = "\
-Usage: ether_make [--pad] < LINES > CAPTURE
+Usage: ether_make [--pad] [--fcs] [--hex] < LINES > CAPTURE
        ether_make --help | --version
 
 Makes frames. Each line of standard input is a JSON object with the headers of a
@@ -44,7 +45,9 @@ frame, as ether_capture --format json prints it, or shorter:
 
 A field that is missing has its usual value. The bytes after the headers are
 the hexadecimal digits of \"rest\":{\"bytes\":\"..\"}. With --pad, a frame of
-Ethernet that has fewer than 60 bytes is padded with zeros.
+Ethernet that has fewer than 60 bytes is padded with zeros. With --fcs, frames
+of Ethernet end with their check sequence. With --hex, the output is a line of
+hexadecimal digits for each frame, as ether_tool reads it.
 
 Exit status: 0, or 2 if the words are wrong, 3 if a line means no frame, 4 if
 standard input or output fails, 5 if there is no memory.
@@ -64,10 +67,12 @@ fn main(rt: HostRuntime) -> ExitCode {
         rate: None,
     };
     for word in args.skip(1) {
-        if word.as_str() != "--pad" {
-            return about(rt, word.as_str());
+        match word.as_str() {
+            "--pad" => settings.pad = true,
+            "--fcs" => settings.fcs = true,
+            "--hex" => settings.form = Form::Hex,
+            word => return about(rt, word),
         }
-        settings.pad = true;
     }
     let Ok(mut writer) = BufWriter::new(rt.alloc(), rt.stdout()) else {
         return ExitCode::from(tell(rt, &RunFault::Line(Stop::MEMORY)));

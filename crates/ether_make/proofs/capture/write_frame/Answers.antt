@@ -5,10 +5,10 @@ use Rattle.ether_make.proofs.capture.write_frame.Goals as goal
 pub returns-in_ok-write_record-in-None-clause-grows : goal.returns-in_ok-write_record-in-None-clause-grows
 returns-in_ok-write_record-in-None-clause-grows g c =
     λ fit.
-    first-grows _ (frame_view c.args.frame.now) _ _ _ c.in-None.is fit c.in_ok-write_header-in-None.ensures
+    first-grows _ (frame_view c.args.frame.now) _ _ _ c.in-None.is c.in_ok-write_header-in-None.ensures
     (c.in_ok-write_record-in-None.ensures fit)
 
 pub returns-in_ok-write_record-in-Some-clause-grows : goal.returns-in_ok-write_record-in-Some-clause-grows
 returns-in_ok-write_record-in-Some-clause-grows g c =
     λ fit.
-    later-grows _ _ (frame_view c.args.frame.now) _ _ c.in-Some.is fit (c.in_ok-write_record-in-Some.ensures fit)
+    later-grows _ _ (frame_view c.args.frame.now) _ _ c.in-Some.is (c.in_ok-write_record-in-Some.ensures fit)
