@@ -15,6 +15,7 @@ import shutil
 import struct
 import subprocess
 import sys
+import tempfile
 import zlib
 from dataclasses import dataclass
 
@@ -42,6 +43,16 @@ class Refused:
     said: str
     frames: tuple = ()
     link: int = 1
+
+
+NO_OPTION, NO_VALUE, NO_NUMBER = "there is no such option; try --help", "the value is missing; try --help", "is no number from 0 on"
+WRONG_WORDS = {
+    "--hax": f"--hax: {NO_OPTION}", "one --hax": f"--hax: {NO_OPTION}", "-x": f"-x: {NO_OPTION}", "--hax=5": f"--hax=5: {NO_OPTION}",
+    "--count": f"--count: {NO_VALUE}", "-w": f"-w: {NO_VALUE}", "--seed --pad": f"--seed: {NO_VALUE}",
+    "--count x": f"--count: x {NO_NUMBER}", "--seed 0x5": f"--seed: 0x5 {NO_NUMBER}", "--seed=18446744073709551616": f"--seed: 18446744073709551616 {NO_NUMBER}",
+    "--rate 0": "--rate: 0 is no number from 1 on", "--rate 1.5": "--rate: 1.5 is no number from 1 on",
+    "--pad --pad": "these words do not go together; try --help", "--count 1 --count 2": "these words do not go together; try --help",
+}
 
 
 def line(*headers, **members):
@@ -312,7 +323,6 @@ def padded_cases(program):
         lines = line(ETH, rest={"bytes": "ff" * length})
         yield f"{length} bytes and padding", made(program, lines, "--pad"), (capture_of([frame.ljust(60, b"\0")]), "", 0)
     yield "no header and padding", made(program, line(), "--pad"), (capture_of([bytes(60)]), "", 0)
-    yield "padding asked for twice", made(program, line(), "--pad", "--pad"), (capture_of([bytes(60)]), "", 0)
     cooked = bytes.fromhex("0000" "0001" "0006" "0000000000000000" "0000")
     yield "no padding of a cooked frame", made(program, line({"header": "sll"}), "--pad"), (capture_of([cooked], 113), "", 0)
     said = made(program, line(ETH) + "x\n", "--pad")
@@ -340,6 +350,10 @@ def hex_cases(program):
     yield "lines of hex, padding and check sequences", made_text(program, line(ETH), "--hex", "--pad", "--fcs"), (
         checked(bytes.fromhex(ADDRESSES + "0000").ljust(60, b"\0")).hex() + "\n", "", 0)
     yield "no line of hex", made_text(program, "", "--hex"), ("", "", 0)
+    tool = os.path.join(os.path.dirname(program), "ether_tool")
+    if os.path.exists(tool):
+        read = subprocess.run([tool, "eth"], input=made(program, line(ETH, {"header": "vlan", "vid": 5}), "--hex")[0], capture_output=True, check=False)
+        yield "lines that ether_tool reads", read.stdout.decode(), "ethernet2 0 00005e000101 020000000001 0x8100\nvlan 14 pcp 0 dei 0 vid 5 0x0000\nrest 18 18 type 0x0000\n"
     yield "lines of hex before a refusal", made_text(program, line(ETH) + "x\n", "--hex"), (ADDRESSES + "0000\n", "ether_make: line 2: this is no JSON text\n", 3)
 
 
@@ -356,7 +370,9 @@ def word_cases(program):
 
     with open(os.path.join(os.path.dirname(os.path.abspath(__file__)), "..", "VERSION"), encoding="utf-8") as file:
         yield "--version", said("--version"), (f"ether_make {file.read().strip()}\n", "", 0)
-    yield "--help", said("--help")[0].splitlines()[0], "Usage: ether_make [--pad] [--fcs] [--hex] < LINES > CAPTURE"
+        yield "-V", said("-V"), said("--version")
+    usage = "usage: ether_make [--pad] [--fcs] [--count N] [--seed N] [--rate N] [--hex] [-w FILE] [FILE].."
+    yield "--help", (said("--help")[0].splitlines()[0], said("--help")[1:], said("-h")), (usage, ("", 0), said("--help"))
     with subprocess.Popen([program], stdin=subprocess.PIPE, stdout=subprocess.PIPE, stderr=subprocess.PIPE) as closed:
         closed.stdout.close()
         closed.stdin.write(line(ETH).encode())
@@ -370,7 +386,8 @@ def word_cases(program):
     done = subprocess.run([program], stdin=folder, capture_output=True, check=False)
     os.close(folder)
     yield "a folder", (done.stdout, done.stderr, done.returncode), (capture_of([]), b"ether_make: standard input: Is a directory (os error 21)\n", 4)
-    yield "a wrong word", said("--hax"), ("", "ether_make: --hax: there is no such word; try --help\n", 2)
+    for words, wrong in WRONG_WORDS.items():
+        yield f"wrong words: {words}", said(*words.split()), ("", f"ether_make: {wrong}\n", 2)
 
 
 def scapy_cases(program):
@@ -434,6 +451,47 @@ def tshark_cases(program):
         yield f"nothing malformed: {name}", (len(read.stdout) > 0, b"alformed" in read.stdout), (True, False)
 
 
+def file_cases(program):
+    """Lines of files, and an output in a file."""
+    with tempfile.TemporaryDirectory() as folder:
+        def path(name, lines=None):
+            if lines is not None:
+                with open(f"{folder}/{name}", "w", encoding="utf-8") as file:
+                    file.write(lines)
+            return f"{folder}/{name}"
+
+        def content(name):
+            with open(f"{folder}/{name}", "rb") as file:
+                return file.read()
+
+        tag, sll = {"header": "vlan", "vid": 5}, {"header": "sll"}
+        one, two = path("one", line(ETH)), path("two", line(ETH, tag).rstrip("\n"))
+        frames = [bytes.fromhex(ADDRESSES + "0000"), bytes.fromhex(ADDRESSES + "8100" "0005" "0000")]
+        yield "two files", made(program, "x", two, one), (capture_of([frames[1], frames[0]]), "", 0)
+        yield "standard input between files", made(program, line(rest={"bytes": "aa"}), two, "-", one), (capture_of([frames[1], b"\xaa", frames[0]]), "", 0)
+        yield "standard input by its name", made(program, line(ETH), "-"), (capture_of(frames[:1]), "", 0)
+        yield "an empty file", made(program, "x", path("empty", "")), (capture_of([]), "", 0)
+        yield "options after files", made_text(program, "", one, "--hex", two), (ADDRESSES + "0000\n" + ADDRESSES + "810000050000\n", "", 0)
+        wrong = path("wrong", line(ETH) + "\nx\n" + line(ETH))
+        yield "a refusal in a file", made(program, "", two, wrong, one), (capture_of([frames[1], frames[0]]), f"ether_make: {wrong}: line 3: this is no JSON text\n", 3)
+        yield "a refusal in standard input among files", made(program, "x", one, "-"), (capture_of(frames[:1]), "ether_make: line 1: this is no JSON text\n", 3)
+        other = path("other", line(sll))
+        yield "another link type in another file", made(program, "", one, other), (
+            capture_of(frames[:1]), f"ether_make: {other}: line 1: link is not the link type of the frames before\n", 3)
+        missing = path("missing")
+        yield "a file that is missing", made(program, "", one, missing, two), (
+            capture_of(frames[:1]), f"ether_make: {missing}: No such file or directory (os error 2)\n", 4)
+        yield "a folder among files", made(program, "", one, folder), (capture_of(frames[:1]), f"ether_make: {folder}: Is a directory (os error 21)\n", 4)
+        yield "an output file", (made(program, line(ETH), "-w", path("made", "old")), content("made")), ((b"", "", 0), capture_of(frames[:1]))
+        yield "an output file with frames before a refusal", (made(program, "", wrong, "-w", path("made")), content("made")), (
+            (b"", f"ether_make: {wrong}: line 3: this is no JSON text\n", 3), capture_of(frames[:1]))
+        yield "standard output by its name", made(program, line(ETH), "-w", "-"), (capture_of(frames[:1]), "", 0)
+        nowhere = path("missing/made")
+        yield "an output in no folder", made(program, line(ETH), "-w", nowhere), (b"", f"ether_make: {nowhere}: No such file or directory (os error 2)\n", 4)
+        if os.path.exists("/dev/full"):
+            yield "a full output file", made(program, line(ETH), "-w", "/dev/full"), (b"", "ether_make: /dev/full: No space left on device (os error 28)\n", 4)
+
+
 # Gives the outermost VLAN tag with identifier 5 the identifier 7, as `--set-vlan 5:7` does.
 SET_VLAN = """(.headers | map(.header == "vlan" and .vid == 5) | index(true)) as $i
               | if $i != null then .headers[$i].vid = 7 else . end"""
@@ -474,8 +532,10 @@ def main():
     words.add_argument("word", metavar="WORD", nargs="?", default="")
     words.add_argument("--capture", metavar="PROGRAM", help="the program ether_capture; without it, the one that is built next to PROGRAM")
     given = words.parse_args()
-    capture = given.capture or os.path.join(os.path.dirname(given.program), "..", "..", "ether_capture", "out", "ether_capture")
-    cases = [*frame_cases(given.program), *memory_cases(given.program), *padded_cases(given.program), *checked_cases(given.program), *hex_cases(given.program), *refused_cases(given.program), *word_cases(given.program),
+    folder = os.path.dirname(given.program)
+    built = os.path.join(folder, "..", "..", "ether_capture", "out", "ether_capture"), os.path.join(folder, "ether_capture")
+    capture = given.capture or next((it for it in built if os.path.exists(it)), built[0])
+    cases = [*frame_cases(given.program), *memory_cases(given.program), *padded_cases(given.program), *checked_cases(given.program), *hex_cases(given.program), *refused_cases(given.program), *word_cases(given.program), *file_cases(given.program),
              *scapy_cases(given.program), *tshark_cases(given.program),
              *printed_cases(given.program, capture), *sent_cases(given.program)]
     return count((name, got, wanted) for name, got, wanted in cases if given.word in name)

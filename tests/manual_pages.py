@@ -50,7 +50,7 @@ def main():
     check_form()
     for word in ("eth", "fcs", "sll", "type XXXX", "feed", "limit N"):
         check("ether_tool(1)", word in page("man/ether_tool.1"), f"{word} is missing")
-    for word in re.findall(r"--\w+", text("crates/ether_make/src/main.rt")):
+    for word in re.findall(r"--\w+", text("crates/ether_make/src/about.rt")):
         check("ether_make(1)", word in page("man/ether_make.1"), f"{word} is missing")
     table = text("docs/FORMAT.md").partition("Primitive | True of a packet\n---|---\n")[2].partition("\n\n")[0]
     for primitive in re.findall(r"`([^`]*)`", " ".join(row.partition(" | ")[0] for row in table.split("\n"))):

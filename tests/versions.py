@@ -34,7 +34,7 @@ PLACES = {
     "c/link.sh": r"soname,libetherpeel\.so\.(\d+) ",
     "crates/ether_c/src/library.rt": r"version_number (\d+) (\d+) (\d+) ",
     "crates/ether_capture/src/options.rt": r'\.version\("(.*)"\)',
-    "crates/ether_make/src/main.rt": r'VERSION: &str = "ether_make (.*)"',
+    "crates/ether_make/src/about.rt": r'VERSION: &str = "ether_make (.*)"',
     "crates/ether_text/src/tool/about.rt": r'VERSION: &str = "ether_tool (.*)"',
     "crates/ether_stream/src/about.rt": r'VERSION: &str = "ether_capture (.*)"',
     "rust/ether_tools/src/ether_capture/options.rs": r'\.version\("(.*)"\)',

@@ -9,6 +9,9 @@ pub mod CheckLemmas
 pub mod OutputLemmas
 pub mod ReadLemmas
 pub mod ProgramLemmas
+pub mod OptionTableLemmas
+pub mod OptionsLemmas
+pub mod WrongWordLemmas
 pub mod WorkedExamples
 pub mod JsonFits
 pub mod JsonLexemes

@@ -12,7 +12,7 @@ use Rattle.ether_make.specs.declared.settings.Settings.{Settings}
 use Rattle.ether_make.specs.Lines.{LineMeans, LineRefusal, LinesMean, lines_in, linked}
 use Rattle.ether_make.specs.Lines as meant
 use Rattle.ether_make.specs.LineViews.{IfTold, fault_view}
-use Rattle.ether_make.specs.Program.{Ran, HasMade, HasBroken, AfterLine, AfterFault, ReadsLine, TakesLine, RefusesLine, AfterTaking, empty, frame, line_end}
+use Rattle.ether_make.specs.Program.{Ran, HasMade, HasBroken, AfterLine, AfterFault, ReadsLine, TakesLine, RefusesLine, AfterTaking, Continues, linked_all, empty, frame, line_end}
 use Rattle.ether_make.specs.declared.lines.Stop.{Stop}
 use Rattle.ether_make.specs.declared.program.RunFault.{RunFault}
 use Rattle.ether_make.specs.declared.program.RunFault.TheVariants as runs
@@ -20,28 +20,18 @@ use Rattle.ether_make.proofs.OutputLemmas.{begun-nothing, finished-fits, finishe
 use Rattle.ether_make.proofs.LineLemmas.{lines-ended, lines-last, line-fits}
 
 -- all lines before the one with this number are read, made and written
-pub record Doing (settings : Settings) (before now held holds : Option (List ℕ)) (number : ℕ) (link : Option ℕ) : Type
+pub record Doing (settings : Settings) (first : Option ℕ) (before now held holds : Option (List ℕ)) (number : ℕ)
+    (link : Option ℕ) : Type
     0 where
   pub text : List ℕ
   pub frames : List FrameValue
   pub bytes : List ℕ
   pub read : Consumes before now text
-  pub begun : IsOutputBegun settings link frames bytes
+  pub begun : Continues settings first link frames bytes
   pub written : Appends held holds bytes
   pub means : (later : List ℕ) (more : List FrameValue) (stop : Option (ℕ × LineRefusal))
       → LinesMean number link (lines_in later) more stop
-      → LinesMean 1 None (lines_in (text ++ later)) (frames ++ more) stop
-
-pub doing-begin : (settings : Settings) (before held : Option (List ℕ)) → Doing settings before before held held 1 None
-doing-begin settings before held = record {
-  text = [];
-  frames = [];
-  bytes = [];
-  read = Consumes-nil before;
-  begun = begun-nothing settings.form settings.fcs;
-  written = Appends-nil held;
-  means = λ later more stop h. h;
-}
+      → LinesMean 1 first (lines_in (text ++ later)) (frames ++ more) stop
 
 -- ---- a line that is read
 
@@ -66,31 +56,67 @@ whole_text : (text line later : List ℕ) → text ++ (line ++ 10 ∷ later) ≡
 whole_text text line later =
     ap (λ l. text ++ l) (sym (append_assoc line (10 ∷ []) later)) ∙ sym (append_assoc text (line ++ 10 ∷ []) later)
 
-ended_means : (number after : ℕ) (link linked : Option ℕ) (text line : List ℕ) (frames new : List FrameValue)
+ended_means : (first : Option ℕ) (number after : ℕ) (link linked : Option ℕ) (text line : List ℕ)
+    (frames new : List FrameValue)
     → All (λ c. c ≢ 10) line
     → ((later : List ℕ) (more : List FrameValue) (stop : Option (ℕ × LineRefusal))
     → LinesMean number link (lines_in later) more stop
-    → LinesMean 1 None (lines_in (text ++ later)) (frames ++ more) stop)
+    → LinesMean 1 first (lines_in (text ++ later)) (frames ++ more) stop)
     → ((lines : List (List ℕ)) (more : List FrameValue) (stop : Option (ℕ × LineRefusal))
     → LinesMean after linked lines more stop → LinesMean number link (line ∷ lines) (new ++ more) stop)
     → (later : List ℕ) (more : List FrameValue) (stop : Option (ℕ × LineRefusal))
     → LinesMean after linked (lines_in later) more stop
-    → LinesMean 1 None (lines_in ((text ++ (line ++ 10 ∷ [])) ++ later)) ((frames ++ new) ++ more) stop
-ended_means number after link linked text line frames new one means step later more stop h =
-    subst (λ (t : List ℕ). LinesMean 1 None (lines_in t) ((frames ++ new) ++ more) stop) (whole_text text line later)
-    (subst (λ (fs : List FrameValue). LinesMean 1 None (lines_in (text ++ (line ++ 10 ∷ later))) fs stop)
+    → LinesMean 1 first (lines_in ((text ++ (line ++ 10 ∷ [])) ++ later)) ((frames ++ new) ++ more) stop
+ended_means first number after link linked text line frames new one means step later more stop h =
+    subst (λ (t : List ℕ). LinesMean 1 first (lines_in t) ((frames ++ new) ++ more) stop) (whole_text text line later)
+    (subst (λ (fs : List FrameValue). LinesMean 1 first (lines_in (text ++ (line ++ 10 ∷ later))) fs stop)
     (sym (append_assoc frames new more))
     (means (line ++ 10 ∷ later) (new ++ more) stop
     (subst (λ (ls : List (List ℕ)). LinesMean number link ls (new ++ more) stop) (sym (lines-ended line later one))
     (step (lines_in later) more stop h))))
 
-grown : (settings : Settings) (link after : Option ℕ) (f : FrameValue) (frames : List FrameValue) (bytes more : List ℕ)
-    → IsBegunAs settings.form settings.fcs after (map (finished settings) frames ++ finished settings f ∷ [])
-    (bytes ++ more)
-    → IsOutputBegun settings after (frames ++ f ∷ []) (bytes ++ more)
-grown settings link after f frames bytes more h =
-    subst (λ (fs : List FrameValue). IsBegunAs settings.form settings.fcs after fs (bytes ++ more))
-    (sym (map-append (finished settings) frames (f ∷ []))) h
+linked-more : (link : Option ℕ) (frames : List FrameValue) (f : FrameValue)
+    → linked (linked_all link frames) f ≡ linked_all link (frames ++ f ∷ [])
+linked-more link [] f = refl
+linked-more None (g ∷ gs) f = refl
+linked-more (Some l) (g ∷ gs) f = refl
+
+begun-here : (settings : Settings) (link : Option ℕ) → Continues settings link link [] []
+begun-here settings link = record {
+  is_linked = refl;
+  begun = λ earlier front h.
+      subst (λ (fs : List FrameValue). IsOutputBegun settings link fs (front ++ [])) (sym (append-nil earlier))
+      (subst (λ (bs : List ℕ). IsOutputBegun settings link earlier bs) (sym (append-nil front)) h);
+}
+
+-- one frame more
+grown : (settings : Settings) (first link : Option ℕ) (f : FrameValue) (frames : List FrameValue) (bytes : List ℕ)
+    (held holds : Option (List ℕ)) → Continues settings first link frames bytes
+    → (g : Grows (IsBegunAs settings.form settings.fcs) link (linked link f) (finished settings f) held holds)
+    → Continues settings first (linked link f) (frames ++ f ∷ []) (bytes ++ g.more)
+grown settings first link f frames bytes held holds c g = record {
+  is_linked = ap (λ l. linked l f) c.is_linked ∙ linked-more first frames f;
+  begun = λ earlier front h.
+      subst (λ (fs : List FrameValue). IsOutputBegun settings (linked link f) fs (front ++ (bytes ++ g.more)))
+      (append_assoc earlier frames (f ∷ []))
+      (subst (λ (bs : List ℕ). IsOutputBegun settings (linked link f) ((earlier ++ frames) ++ f ∷ []) bs)
+      (append_assoc front bytes g.more)
+      (subst (λ (fs : List FrameValue). IsBegunAs settings.form settings.fcs (linked link f) fs
+      ((front ++ bytes) ++ g.more)) (sym (map-append (finished settings) (earlier ++ frames) (f ∷ [])))
+      (g.begun (map (finished settings) (earlier ++ frames)) (front ++ bytes) (c.begun earlier front h))));
+}
+
+pub doing-begin : (settings : Settings) (first : Option ℕ) (before held : Option (List ℕ))
+    → Doing settings first before before held held 1 first
+doing-begin settings first before held = record {
+  text = [];
+  frames = [];
+  bytes = [];
+  read = Consumes-nil before;
+  begun = begun-here settings first;
+  written = Appends-nil held;
+  means = λ later more stop h. h;
+}
 
 -- what is written of a frame of a line, which is finished
 pub line-taken : (settings : Settings) (text : List ℕ) (held holds : Option (List ℕ)) (link after : Option ℕ)
@@ -110,39 +136,41 @@ line-taken settings text held holds link after f made some means is linked_is gr
     (subst (λ (x : FrameValue). Grows (IsBegunAs settings.form settings.fcs) link (linked link made) x held holds) is
     (grows fit))))
 
-pub doing-line : (settings : Settings) (before now after held mid holds : Option (List ℕ)) (number : ℕ) (line : List ℕ)
-    (link linked : Option ℕ) → Doing settings before now held mid number link → ReadsLine now after line true
-    → TakesLine settings line mid holds link linked → Doing settings before after held holds (number + 1) linked
-doing-line settings before now after held mid holds number line link linked d r (empty l e a) = record {
+pub doing-line : (settings : Settings) (first : Option ℕ) (before now after held mid holds : Option (List ℕ))
+    (number : ℕ) (line : List ℕ)
+    (link linked : Option ℕ) → Doing settings first before now held mid number link → ReadsLine now after line true
+    → TakesLine settings line mid holds link linked → Doing settings first before after held holds (number + 1) linked
+doing-line settings first before now after held mid holds number line link linked d r (empty l e a) = record {
   text = d.text ++ (line ++ 10 ∷ []);
   frames = d.frames ++ [];
   bytes = d.bytes;
   read = Consumes-trans before now after d.text (line ++ 10 ∷ []) d.read r.read;
-  begun = subst (λ (fs : List FrameValue). IsOutputBegun settings l fs d.bytes) (sym (append-nil d.frames)) d.begun;
+  begun = subst (λ (fs : List FrameValue). Continues settings first l fs d.bytes) (sym (append-nil d.frames)) d.begun;
   written = same_written held mid holds d.bytes d.written a;
-  means = ended_means number (number + 1) l l d.text line d.frames [] r.one_line d.means
+  means = ended_means first number (number + 1) l l d.text line d.frames [] r.one_line d.means
       (λ lines more stop h. empty_means number l line lines more stop e h);
 }
-doing-line settings before now after held mid holds number line link linked d r (frame l f some means g) = record {
-  text = d.text ++ (line ++ 10 ∷ []);
-  frames = d.frames ++ f ∷ [];
-  bytes = d.bytes ++ g.more;
-  read = Consumes-trans before now after d.text (line ++ 10 ∷ []) d.read r.read;
-  begun = grown settings l _ f d.frames d.bytes g.more (g.begun (map (finished settings) d.frames) d.bytes d.begun);
-  written = Appends-trans held mid holds d.bytes g.more d.written g.written;
-  means = ended_means number (number + 1) l _ d.text line d.frames (f ∷ []) r.one_line d.means
-      (λ lines more stop h. meant.frame number l line f lines more stop some means h);
-}
+doing-line settings first before now after held mid holds number line link linked d r (frame l f some means g) =
+    record {
+      text = d.text ++ (line ++ 10 ∷ []);
+      frames = d.frames ++ f ∷ [];
+      bytes = d.bytes ++ g.more;
+      read = Consumes-trans before now after d.text (line ++ 10 ∷ []) d.read r.read;
+      begun = grown settings first l f d.frames d.bytes mid holds d.begun g;
+      written = Appends-trans held mid holds d.bytes g.more d.written g.written;
+      means = ended_means first number (number + 1) l _ d.text line d.frames (f ∷ []) r.one_line d.means
+          (λ lines more stop h. meant.frame number l line f lines more stop some means h);
+    }
 
 -- ---- the last line
 
-last_means : (number : ℕ) (link : Option ℕ) (text line : List ℕ) (frames new : List FrameValue)
+last_means : (first : Option ℕ) (number : ℕ) (link : Option ℕ) (text line : List ℕ) (frames new : List FrameValue)
     (stop : Option (ℕ × LineRefusal)) → All (λ c. c ≢ 10) line
     → ((later : List ℕ) (more : List FrameValue) (stop : Option (ℕ × LineRefusal))
     → LinesMean number link (lines_in later) more stop
-    → LinesMean 1 None (lines_in (text ++ later)) (frames ++ more) stop)
-    → LinesMean number link (line ∷ []) new stop → LinesMean 1 None (lines_in (text ++ line)) (frames ++ new) stop
-last_means number link text line frames new stop one means h =
+    → LinesMean 1 first (lines_in (text ++ later)) (frames ++ more) stop)
+    → LinesMean number link (line ∷ []) new stop → LinesMean 1 first (lines_in (text ++ line)) (frames ++ new) stop
+last_means first number link text line frames new stop one means h =
     means line new stop
     (subst (λ (ls : List (List ℕ)). LinesMean number link ls new stop) (sym (lines-last line one)) h)
 
@@ -158,55 +186,59 @@ read_last before now after text line a b =
     subst (λ (bs : List ℕ). Consumes before after bs) (sym (append_assoc text line []))
     (Consumes-trans before now after text (line ++ []) a b)
 
-pub doing-last : (settings : Settings) (before now after held mid holds : Option (List ℕ)) (number : ℕ) (line : List ℕ)
-    (link linked : Option ℕ) → Doing settings before now held mid number link → ReadsLine now after line false
-    → TakesLine settings line mid holds link linked → HasMade (IsOutputBegun settings linked) before after held holds
-doing-last settings before now after held mid holds number line link linked d r (empty l e a) = record {
+pub doing-last : (settings : Settings) (first : Option ℕ) (before now after held mid holds : Option (List ℕ))
+    (number : ℕ) (line : List ℕ)
+    (link linked : Option ℕ) → Doing settings first before now held mid number link → ReadsLine now after line false
+    → TakesLine settings line mid holds link linked → HasMade first (Continues settings first linked) before after
+    held holds
+doing-last settings first before now after held mid holds number line link linked d r (empty l e a) = record {
   ran = record {
     text = d.text ++ line;
     frames = d.frames ++ [];
     bytes = d.bytes;
     read = read_last before now after d.text line d.read r.read;
-    means = last_means number l d.text line d.frames [] None r.one_line d.means
+    means = last_means first number l d.text line d.frames [] None r.one_line d.means
         (empty_means number l line [] [] None e (meant.none (number + 1) l));
-    is_written = subst (λ (fs : List FrameValue). IsOutputBegun settings l fs d.bytes) (sym (append-nil d.frames))
+    is_written = subst (λ (fs : List FrameValue). Continues settings first l fs d.bytes) (sym (append-nil d.frames))
         d.begun;
     written = same_written held mid holds d.bytes d.written a;
   };
   at_end = known_end before now after d.text d.read (r.at_end refl);
 }
-doing-last settings before now after held mid holds number line link linked d r (frame l f some means g) = record {
-  ran = record {
-    text = d.text ++ line;
-    frames = d.frames ++ f ∷ [];
-    bytes = d.bytes ++ g.more;
-    read = read_last before now after d.text line d.read r.read;
-    means = last_means number l d.text line d.frames (f ∷ []) None r.one_line d.means
-        (meant.frame number l line f [] [] None some means (meant.none (number + 1) _));
-    is_written = grown settings l _ f d.frames d.bytes g.more
-        (g.begun (map (finished settings) d.frames) d.bytes d.begun);
-    written = Appends-trans held mid holds d.bytes g.more d.written g.written;
-  };
-  at_end = known_end before now after d.text d.read (r.at_end refl);
-}
+doing-last settings first before now after held mid holds number line link linked d r (frame l f some means g) =
+    record {
+      ran = record {
+        text = d.text ++ line;
+        frames = d.frames ++ f ∷ [];
+        bytes = d.bytes ++ g.more;
+        read = read_last before now after d.text line d.read r.read;
+        means = last_means first number l d.text line d.frames (f ∷ []) None r.one_line d.means
+            (meant.frame number l line f [] [] None some means (meant.none (number + 1) _));
+        is_written = grown settings first l f d.frames d.bytes mid holds d.begun g;
+        written = Appends-trans held mid holds d.bytes g.more d.written g.written;
+      };
+      at_end = known_end before now after d.text d.read (r.at_end refl);
+    }
 
 -- ---- a line that ends the run
 
 -- what the text so far means, if nothing of the next line is made
-so_far : (number : ℕ) (link : Option ℕ) (text : List ℕ) (frames : List FrameValue)
+so_far : (first : Option ℕ) (number : ℕ) (link : Option ℕ) (text : List ℕ) (frames : List FrameValue)
     → ((later : List ℕ) (more : List FrameValue) (stop : Option (ℕ × LineRefusal))
     → LinesMean number link (lines_in later) more stop
-    → LinesMean 1 None (lines_in (text ++ later)) (frames ++ more) stop) → LinesMean 1 None (lines_in text) frames None
-so_far number link text frames means =
-    subst (λ (t : List ℕ). LinesMean 1 None (lines_in t) frames None) (append-nil text)
-    (subst (λ (fs : List FrameValue). LinesMean 1 None (lines_in (text ++ [])) fs None) (append-nil frames)
+    → LinesMean 1 first (lines_in (text ++ later)) (frames ++ more) stop) → LinesMean 1 first (lines_in text) frames
+    None
+so_far first number link text frames means =
+    subst (λ (t : List ℕ). LinesMean 1 first (lines_in t) frames None) (append-nil text)
+    (subst (λ (fs : List FrameValue). LinesMean 1 first (lines_in (text ++ [])) fs None) (append-nil frames)
     (means [] [] None (meant.empty number link [] [] None (meant.none (number + 1) link))))
 
-pub doing-broken : (settings : Settings) (before now after held mid holds : Option (List ℕ)) (number : ℕ)
+pub doing-broken : (settings : Settings) (first : Option ℕ) (before now after held mid holds : Option (List ℕ))
+    (number : ℕ)
     (link : Option ℕ)
-    (part : List ℕ) → Doing settings before now held mid number link → Consumes now after part → StopsAt part 10
-    → Appends mid holds [] → HasBroken (IsOutputBegun settings link) before after held holds
-doing-broken settings before now after held mid holds number link part d reads one a = record {
+    (part : List ℕ) → Doing settings first before now held mid number link → Consumes now after part → StopsAt part 10
+    → Appends mid holds [] → HasBroken first (Continues settings first link) before after held holds
+doing-broken settings first before now after held mid holds number link part d reads one a = record {
   part = part;
   one_line = one;
   ran = record {
@@ -214,7 +246,7 @@ doing-broken settings before now after held mid holds number link part d reads o
     frames = d.frames;
     bytes = d.bytes;
     read = Consumes-trans before now after d.text part d.read reads;
-    means = so_far number link d.text d.frames d.means;
+    means = so_far first number link d.text d.frames d.means;
     is_written = d.begun;
     written = same_written held mid holds d.bytes d.written a;
   };
@@ -233,15 +265,16 @@ refused_lines : (line : List ℕ) (is_ended : Bool) → All (λ c. c ≢ 10) lin
 refused_lines line true h = (lines_in [], lines-ended line [] h)
 refused_lines line false h = ([], ap lines_in (append-nil line) ∙ lines-last line h)
 
-after_line : (settings : Settings) (before now after held mid holds : Option (List ℕ)) (number : ℕ) (link : Option ℕ)
+after_line : (settings : Settings) (first : Option ℕ) (before now after held mid holds : Option (List ℕ)) (number : ℕ)
+    (link : Option ℕ)
     (line : List ℕ)
-    (is_ended : Bool) (told : Option LineRefusal) → Doing settings before now held mid number link
+    (is_ended : Bool) (told : Option LineRefusal) → Doing settings first before now held mid number link
     → ReadsLine now after line is_ended → 0 < length line → IfTold (λ r. LineMeans link line (Err r)) told
-    → Appends mid holds [] → AfterLine (IsOutputBegun settings link) before after held holds number told
-after_line settings before now after held mid holds number link line is_ended None d r some means a =
-    doing-broken settings before now after held mid holds number link (line ++ line_end is_ended) d r.read
+    → Appends mid holds [] → AfterLine first (Continues settings first link) before after held holds number told
+after_line settings first before now after held mid holds number link line is_ended None d r some means a =
+    doing-broken settings first before now after held mid holds number link (line ++ line_end is_ended) d r.read
     (stops_at line is_ended r.one_line) a
-after_line settings before now after held mid holds number link line is_ended (Some told) d r some means a =
+after_line settings first before now after held mid holds number link line is_ended (Some told) d r some means a =
     let lines = refused_lines line is_ended r.one_line in
     record {
       text = d.text ++ (line ++ line_end is_ended);
@@ -255,67 +288,75 @@ after_line settings before now after held mid holds number link line is_ended (S
           (subst (λ (ls : List (List ℕ)). LinesMean number link ls [] (Some (number, told))) (sym lines.1)
           (meant.refused number link line lines.0 told some means));
       is_written =
-          subst (λ (fs : List FrameValue). IsOutputBegun settings link fs d.bytes) (sym (append-nil d.frames)) d.begun;
+          subst (λ (fs : List FrameValue). Continues settings first link fs d.bytes) (sym (append-nil d.frames))
+          d.begun;
       written = same_written held mid holds d.bytes d.written a;
     }
 
-pub doing-refused : (settings : Settings) (before now after held mid holds : Option (List ℕ)) (number : ℕ)
+pub doing-refused : (settings : Settings) (first : Option ℕ) (before now after held mid holds : Option (List ℕ))
+    (number : ℕ)
     (link linked : Option ℕ) (line : List ℕ) (is_ended : Bool) (stop : Stop)
-    → Doing settings before now held mid number link
+    → Doing settings first before now held mid number link
     → ReadsLine now after line is_ended → RefusesLine number line mid holds link linked stop
-    → AfterLine (IsOutputBegun settings linked) before after held holds stop.line (fault_view stop.fault)
-doing-refused settings before now after held mid holds number link linked line is_ended stop d r f =
-    subst (λ (n : ℕ). AfterLine (IsOutputBegun settings linked) before after held holds n (fault_view stop.fault))
+    → AfterLine first (Continues settings first linked) before after held holds stop.line (fault_view stop.fault)
+doing-refused settings first before now after held mid holds number link linked line is_ended stop d r f =
+    subst (λ (n : ℕ). AfterLine first (Continues settings first linked) before after held holds n
+    (fault_view stop.fault))
     (sym f.line)
-    (subst (λ (l : Option ℕ). AfterLine (IsOutputBegun settings l) before after held holds number
+    (subst (λ (l : Option ℕ). AfterLine first (Continues settings first l) before after held holds number
     (fault_view stop.fault))
     (sym f.same_link)
-    (after_line settings before now after held mid holds number link line is_ended (fault_view stop.fault) d r f.some
+    (after_line settings first before now after held mid holds number link line is_ended (fault_view stop.fault) d r
+    f.some
     f.means
     f.unwritten))
 
 -- .. in a run, by the fault of the line
-pub doing-fault : (settings : Settings) (before now after held mid holds : Option (List ℕ)) (number : ℕ)
+pub doing-fault : (settings : Settings) (first : Option ℕ) (before now after held mid holds : Option (List ℕ))
+    (number : ℕ)
     (link linked : Option ℕ) (line : List ℕ) (is_ended : Bool) (fault : RunFault)
-    → Doing settings before now held mid number link
+    → Doing settings first before now held mid number link
     → ReadsLine now after line is_ended → AfterTaking number line mid holds link linked fault
-    → AfterFault (IsOutputBegun settings linked) before after held holds fault
-doing-fault settings before now after held mid holds number link linked line is_ended (runs.Line stop) d r f =
-    doing-refused settings before now after held mid holds number link linked line is_ended stop d r f
-doing-fault settings before now after held mid holds number link linked line is_ended (runs.Input error) d r f =
+    → AfterFault first (Continues settings first linked) before after held holds fault
+doing-fault settings first before now after held mid holds number link linked line is_ended (runs.Line stop) d r f =
+    doing-refused settings first before now after held mid holds number link linked line is_ended stop d r f
+doing-fault settings first before now after held mid holds number link linked line is_ended (runs.Input error) d r f =
     absurd f
-doing-fault settings before now after held mid holds number link linked line is_ended (runs.Output error) d r f = tt
+doing-fault settings first before now after held mid holds number link linked line is_ended (runs.Output error) d r f
+    = tt
 
 -- ---- the end
 
 ran-ends : (settings : Settings) (link : Option ℕ) (before after held mid holds : Option (List ℕ))
     (stop : Option (ℕ × LineRefusal)) (part : List ℕ)
-    → Ran (IsOutputBegun settings link) before after held mid stop part → Ends (IsBegunAs settings.form settings.fcs)
+    → Ran None (Continues settings None link) before after held mid stop part → Ends
+    (IsBegunAs settings.form settings.fcs)
     (IsWrittenAs settings.form settings.fcs) link mid holds
-    → Ran (IsOutput settings) before after held holds stop part
+    → Ran None (IsOutput settings) before after held holds stop part
 ran-ends settings link before after held mid holds stop part r e = record {
   text = r.text;
   frames = r.frames;
   bytes = r.bytes ++ e.more;
   read = r.read;
   means = r.means;
-  is_written = e.whole (map (finished settings) r.frames) r.bytes r.is_written;
+  is_written = e.whole (map (finished settings) r.frames) r.bytes
+      (r.is_written.begun [] [] (begun-nothing settings.form settings.fcs));
   written = Appends-trans held mid holds r.bytes e.more r.written e.written;
 }
 
 pub made-ends : (settings : Settings) (link : Option ℕ) (before after held mid holds : Option (List ℕ))
-    → HasMade (IsOutputBegun settings link) before after held mid → Ends (IsBegunAs settings.form settings.fcs)
+    → HasMade None (Continues settings None link) before after held mid → Ends (IsBegunAs settings.form settings.fcs)
     (IsWrittenAs settings.form settings.fcs) link mid holds
-    → HasMade (IsOutput settings) before after held holds
+    → HasMade None (IsOutput settings) before after held holds
 made-ends settings link before after held mid holds m e = record {
   ran = ran-ends settings link before after held mid holds None [] m.ran e;
   at_end = m.at_end;
 }
 
 broken-ends : (settings : Settings) (link : Option ℕ) (before after held mid holds : Option (List ℕ))
-    → HasBroken (IsOutputBegun settings link) before after held mid → Ends (IsBegunAs settings.form settings.fcs)
+    → HasBroken None (Continues settings None link) before after held mid → Ends (IsBegunAs settings.form settings.fcs)
     (IsWrittenAs settings.form settings.fcs) link mid holds
-    → HasBroken (IsOutput settings) before after held holds
+    → HasBroken None (IsOutput settings) before after held holds
 broken-ends settings link before after held mid holds b e = record {
   part = b.part;
   one_line = b.one_line;
@@ -323,9 +364,9 @@ broken-ends settings link before after held mid holds b e = record {
 }
 
 line-ends : (settings : Settings) (link : Option ℕ) (before after held mid holds : Option (List ℕ)) (line : ℕ)
-    (told : Option LineRefusal) → AfterLine (IsOutputBegun settings link) before after held mid line told
+    (told : Option LineRefusal) → AfterLine None (Continues settings None link) before after held mid line told
     → Ends (IsBegunAs settings.form settings.fcs) (IsWrittenAs settings.form settings.fcs) link mid holds
-    → AfterLine (IsOutput settings) before after held holds line told
+    → AfterLine None (IsOutput settings) before after held holds line told
 line-ends settings link before after held mid holds line None h e = broken-ends settings link before after held mid
     holds h e
 line-ends settings link before after held mid holds line (Some r) h e =
@@ -333,9 +374,10 @@ line-ends settings link before after held mid holds line (Some r) h e =
 
 pub fault-ends : (settings : Settings) (link : Option ℕ) (before after held mid holds : Option (List ℕ))
     (fault : RunFault)
-    → AfterFault (IsOutputBegun settings link) before after held mid fault → Ends (IsBegunAs settings.form settings.fcs)
+    → AfterFault None (Continues settings None link) before after held mid fault → Ends
+    (IsBegunAs settings.form settings.fcs)
     (IsWrittenAs settings.form settings.fcs) link mid holds
-    → AfterFault (IsOutput settings) before after held holds fault
+    → AfterFault None (IsOutput settings) before after held holds fault
 fault-ends settings link before after held mid holds (runs.Line stop) h e =
     line-ends settings link before after held mid holds stop.line (fault_view stop.fault) h e
 fault-ends settings link before after held mid holds (runs.Input error) h e =

@@ -14,6 +14,9 @@ pub mod Captures
 pub mod CheckSequences
 pub mod Outputs
 pub mod Program
+pub mod OptionTable
+pub mod WrongWords
+pub mod Options
 pub mod Messages
 pub mod PacketJson
 pub mod PacketData

@@ -6,7 +6,7 @@ use Rattle.ether_make.specs.Captures.{Grows}
 use Rattle.ether_make.specs.Frames.{FrameValue}
 use Rattle.ether_make.specs.Lines.{LineMeans, LineRefusal, LinesMean, lines_in, linked}
 use Rattle.ether_make.specs.LineViews.{IfTold, fault_view}
-use Rattle.ether_make.specs.Outputs.{IsBegunAs, finished}
+use Rattle.ether_make.specs.Outputs.{IsBegunAs, IsOutputBegun, finished}
 use Rattle.ether_make.specs.declared.settings.Settings.{Settings}
 use Rattle.ether_make.specs.declared.lines.Stop.{Stop}
 use Rattle.ether_make.specs.declared.program.RunFault.{RunFault}
@@ -14,44 +14,62 @@ use Rattle.ether_make.specs.declared.program.RunFault.TheVariants.{Input, Line, 
 
 -- ---- a run
 
--- The reader gave lines, and after them a part of a line that is not made. These lines mean frames, to their end or to
--- the line that is refused, and the writer took bytes that are these frames.
-pub record Ran (IsWritten : List FrameValue → List ℕ → Type 0) (before after held holds : Option (List ℕ))
+-- the link type of frames, after others that have this one, if there are any
+abbrev pub linked_all : (link : Option ℕ) → List FrameValue → Option ℕ
+linked_all link [] = link
+linked_all link (frame ∷ frames) = linked link frame
+
+-- the output of these frames continues that of frames before them, whose link type this is
+pub record Continues (settings : Settings) (link after : Option ℕ) (frames : List FrameValue) (bytes : List ℕ)
+    : Type 0 where
+  pub is_linked : after ≡ linked_all link frames
+  pub begun : (earlier : List FrameValue) (front : List ℕ) → IsOutputBegun settings link earlier front
+      → IsOutputBegun settings after (earlier ++ frames) (front ++ bytes)
+
+-- The reader gave lines, and after them a part of a line that is not made. These lines mean frames after frames with
+-- this link type, to their end or to the line that is refused, and the writer took bytes that are these frames.
+pub record Ran (link : Option ℕ) (IsWritten : List FrameValue → List ℕ → Type 0)
+    (before after held holds : Option (List ℕ))
     (stop : Option (ℕ × LineRefusal)) (part : List ℕ) : Type 0 where
   pub text : List ℕ
   pub frames : List FrameValue
   pub bytes : List ℕ
   pub read : Consumes before after (text ++ part)
-  pub means : LinesMean 1 None (lines_in text) frames stop
+  pub means : LinesMean 1 link (lines_in text) frames stop
   pub is_written : IsWritten frames bytes
   pub written : Appends held holds bytes
 
 -- the reader is at its end, and the writer took the frames of all lines
-pub record HasMade (IsWritten : List FrameValue → List ℕ → Type 0) (before after held holds : Option (List ℕ))
+pub record HasMade (link : Option ℕ) (IsWritten : List FrameValue → List ℕ → Type 0)
+    (before after held holds : Option (List ℕ))
     : Type 0 where
-  pub ran : Ran IsWritten before after held holds None []
+  pub ran : Ran link IsWritten before after held holds None []
   pub at_end : IfSome before (λ xs. IsAtEnd after)
 
 -- the run ended in the middle of a line, and the writer took the frames of all lines before it
-pub record HasBroken (IsWritten : List FrameValue → List ℕ → Type 0) (before after held holds : Option (List ℕ))
+pub record HasBroken (link : Option ℕ) (IsWritten : List FrameValue → List ℕ → Type 0)
+    (before after held holds : Option (List ℕ))
     : Type 0 where
   pub part : List ℕ
   pub one_line : StopsAt part 10
-  pub ran : Ran IsWritten before after held holds None part
+  pub ran : Ran link IsWritten before after held holds None part
 
 -- the run ended at this line, since it is refused, or since there was no memory
-abbrev pub AfterLine : (IsWritten : List FrameValue → List ℕ → Type 0) → (before after held holds : Option (List ℕ))
+abbrev pub AfterLine : (link : Option ℕ) → (IsWritten : List FrameValue → List ℕ → Type 0) →
+    (before after held holds : Option (List ℕ))
     → (line : ℕ) → Option LineRefusal → Type 0
-AfterLine IsWritten before after held holds line None = HasBroken IsWritten before after held holds
-AfterLine IsWritten before after held holds line (Some r) = Ran IsWritten before after held holds (Some (line, r)) []
+AfterLine link IsWritten before after held holds line None = HasBroken link IsWritten before after held holds
+AfterLine link IsWritten before after held holds line (Some r) =
+    Ran link IsWritten before after held holds (Some (line, r)) []
 
 -- what is known after a fault; of one that the writer had nothing
-abbrev pub AfterFault : (IsWritten : List FrameValue → List ℕ → Type 0) → (before after held holds : Option (List ℕ))
+abbrev pub AfterFault : (link : Option ℕ) → (IsWritten : List FrameValue → List ℕ → Type 0) →
+    (before after held holds : Option (List ℕ))
     → RunFault → Type 0
-AfterFault IsWritten before after held holds (Line stop) =
-    AfterLine IsWritten before after held holds stop.line (fault_view stop.fault)
-AfterFault IsWritten before after held holds (Input error) = HasBroken IsWritten before after held holds
-AfterFault IsWritten before after held holds (Output error) = Unit {0}
+AfterFault link IsWritten before after held holds (Line stop) =
+    AfterLine link IsWritten before after held holds stop.line (fault_view stop.fault)
+AfterFault link IsWritten before after held holds (Input error) = HasBroken link IsWritten before after held holds
+AfterFault link IsWritten before after held holds (Output error) = Unit {0}
 
 -- ---- a line of it
 

@@ -1,112 +1,124 @@
-//! Makes frames from objects of JSON, one in each line of standard input, and writes them as a capture to standard
-//! output.
+//! Makes frames from objects of JSON, one in each line of files or of standard input, and writes them as a capture or as
+//! lines of hexadecimal digits, to standard output or a file.
 //!
-//! `main` calls [`program::run`] on the standard streams. A message why not all frames are made goes to standard
-//! error.
+//! `main` reads the arguments by [`options::request_of_words`], and calls [`input_files::run_files`] on the files and the
+//! standard streams. A message why not all frames are made goes to standard error.
 #![tactic(auto)]
 
+pub mod about;
 pub mod bits;
 pub mod capture;
 pub mod check_sequence;
 pub mod field_bits;
 pub mod frame;
 pub mod header;
-pub mod hex;
+pub mod hex_lines;
+pub mod input_files;
 pub mod laws;
 pub mod lines;
 pub mod objects;
+pub mod option_table;
+pub mod options;
 pub mod output;
 pub mod program;
 pub mod refusal;
+pub mod request;
 pub mod settings;
 pub mod sizes;
 pub mod texts;
 pub mod time_text;
+pub mod wrong_words;
 
-use lines::Stop;
+use about::{HELP, VERSION};
+use input_files::{FileFault, run_files};
+use options::request_of_words;
 use program::RunFault;
-use settings::{Form, Settings};
-use std::env;
-use std::io::{BufWriter, ErrorKind};
+use request::{Job, Request, RequestError};
+use std::alloc::Global;
+use std::io::{BufWriter, ErrorKind, Write};
 use std::process::ExitCode;
-
-/// What `--version` prints, before an LF.
-const VERSION: &str = "ether_make 3.0.0";
-
-/// What `--help` prints.
-const HELP: &str = "\
-Usage: ether_make [--pad] [--fcs] [--hex] < LINES > CAPTURE
-       ether_make --help | --version
-
-Makes frames. Each line of standard input is a JSON object with the headers of a
-frame, as ether_capture --format json prints it, or shorter:
-
-    {\"headers\":[{\"header\":\"eth\"},{\"header\":\"arp\",\"tpa\":\"10.0.0.2\"}]}
-
-A field that is missing has its usual value. The bytes after the headers are
-the hexadecimal digits of \"rest\":{\"bytes\":\"..\"}. With --pad, a frame of
-Ethernet that has fewer than 60 bytes is padded with zeros. With --fcs, frames
-of Ethernet end with their check sequence. With --hex, the output is a line of
-hexadecimal digits for each frame, as ether_tool reads it.
-
-Exit status: 0, or 2 if the words are wrong, 3 if a line means no frame, 4 if
-standard input or output fails, 5 if there is no memory.
-";
+use std::{env, fs};
 
 /// The program on the standard streams.
 fn main(rt: HostRuntime) -> ExitCode {
-    let Ok(args) = env::args(&rt) else {
-        return ExitCode::from(4);
+    let args = match env::args(&rt) {
+        Ok(args) => args,
+        Err(error) => {
+            let _ = match error.kind() {
+                ErrorKind::InvalidData => eprintln!(rt; "ether_make: an argument is not UTF-8"),
+                _ => eprintln!(rt; "ether_make: the arguments: {error}"),
+            };
+            return ExitCode::from(4);
+        }
     };
-    let mut settings = Settings {
-        pad: false,
-        fcs: false,
-        form: Form::Capture,
-        count: None,
-        seed: 0,
-        rate: None,
+    let Ok(words) = args.collect::<Vec<String>>(rt.alloc()) else {
+        return ExitCode::from(no_memory(rt));
     };
-    for word in args.skip(1) {
-        match word.as_str() {
-            "--pad" => settings.pad = true,
-            "--fcs" => settings.fcs = true,
-            "--hex" => settings.form = Form::Hex,
-            word => return about(rt, word),
+    ExitCode::from(match request_of_words(words.as_slice(), rt.alloc()) {
+        Ok(Request::Make(job)) => make(rt, &job),
+        Ok(Request::Help) => status_of_text(print!(rt; "{HELP}").is_ok()),
+        Ok(Request::Version) => status_of_text(println!(rt; "{VERSION}").is_ok()),
+        Err(RequestError::Usage(usage)) => {
+            let _ = eprintln!(rt; "ether_make: {usage}");
+            2
+        }
+        Err(RequestError::Memory) => no_memory(rt),
+    })
+}
+
+/// The exit status after a text.
+fn status_of_text(is_written: bool) -> u8 {
+    if is_written { 0 } else { 4 }
+}
+
+/// Says that there is no memory, and returns the exit status.
+fn no_memory(rt: HostRuntime) -> u8 {
+    let _ = eprintln!(rt; "ether_make: out of memory");
+    5
+}
+
+/// Makes the frames that are asked for, and returns the exit status.
+fn make(rt: HostRuntime, job: &Job<'_>) -> u8 {
+    let name = match job.output {
+        None | Some("-") => return make_to(rt, job, rt.stdout(), "standard output"),
+        Some(name) => name,
+    };
+    match fs::create(&rt, name) {
+        Ok(file) => make_to(rt, job, file, name),
+        Err(error) => {
+            let _ = eprintln!(rt; "ether_make: {name}: {error}");
+            4
         }
     }
-    let Ok(mut writer) = BufWriter::new(rt.alloc(), rt.stdout()) else {
-        return ExitCode::from(tell(rt, &RunFault::Line(Stop::MEMORY)));
+}
+
+/// .. and writes them to an output with this name.
+fn make_to<W: Write + Drop>(rt: HostRuntime, job: &Job<'_>, output: W, name: &str) -> u8 {
+    let Ok(mut writer) = BufWriter::new(rt.alloc(), output) else {
+        return no_memory(rt);
     };
-    match program::run(rt.alloc(), &settings, &mut rt.reader(), &mut writer) {
-        Ok(()) => ExitCode::from(0),
-        Err(fault) => ExitCode::from(tell(rt, &fault)),
+    match run_files(&rt, rt.alloc(), job, &mut rt.reader(), &mut writer) {
+        Ok(()) => 0,
+        Err(fault) => tell(rt, &fault, name),
     }
 }
 
 /// Says why not all frames were made, unless nobody reads them any more, and returns the exit status.
-fn tell(rt: HostRuntime, fault: &RunFault) -> u8 {
-    let (told, status) = match fault {
-        RunFault::Input(error) => (eprintln!(rt; "ether_make: standard input: {error}"), 4),
-        RunFault::Output(error) if error.kind() == ErrorKind::BrokenPipe => (Ok(()), 4),
-        RunFault::Output(error) => (eprintln!(rt; "ether_make: standard output: {error}"), 4),
-        RunFault::Line(stop) => (
+fn tell(rt: HostRuntime, fault: &FileFault<'_>, output: &str) -> u8 {
+    let file = fault.file.unwrap_or("standard input");
+    let (told, status) = match (&fault.fault, fault.file) {
+        (RunFault::Input(error), _) => (eprintln!(rt; "ether_make: {file}: {error}"), 4),
+        (RunFault::Output(error), _) if error.kind() == ErrorKind::BrokenPipe => (Ok(()), 4),
+        (RunFault::Output(error), _) => (eprintln!(rt; "ether_make: {output}: {error}"), 4),
+        (RunFault::Line(stop), Some(file)) => (
+            eprintln!(rt; "ether_make: {file}: {stop}"),
+            program::status_of(stop),
+        ),
+        (RunFault::Line(stop), None) => (
             eprintln!(rt; "ether_make: {stop}"),
             program::status_of(stop),
         ),
     };
     let _ = told;
     status
-}
-
-/// Says what a word asks for, or that it is not known.
-fn about(rt: HostRuntime, word: &str) -> ExitCode {
-    let told = match word {
-        "--help" => print!(rt; "{HELP}"),
-        "--version" => println!(rt; "{VERSION}"),
-        _ => {
-            let _ = eprintln!(rt; "ether_make: {word}: there is no such word; try --help");
-            return ExitCode::from(2);
-        }
-    };
-    ExitCode::from(if told.is_ok() { 0 } else { 4 })
 }

@@ -9,7 +9,7 @@ ghost use Rattle.ether_make.specs.Outputs.{IsBegunAs, IsWrittenAs, checked as ch
 use crate::check_sequence::check_sequence;
 use crate::frame::{Frame, padded};
 use crate::settings::{Form, Settings};
-use crate::{capture, hex};
+use crate::{capture, hex_lines};
 use std::alloc::AllocError;
 use std::io;
 use std::io::Write;
@@ -61,7 +61,7 @@ pub fn write_frame<W: Write>(
 {
     match settings.form {
         Form::Capture => capture::write_frame(writer, settings.fcs, link, frame),
-        Form::Hex => hex::write_frame(writer, link, frame),
+        Form::Hex => hex_lines::write_frame(writer, link, frame),
     }
 }
 

@@ -1,8 +1,8 @@
 //! What a run of the program makes of its input.
 ghost use Rattle.std.specs.Prelude.{◌≡◌, None, IfOk, IfErr, OnErr, OnOk};
 ghost use Rattle.ether_make.specs.Messages.{fault_status};
-ghost use Rattle.ether_make.specs.Outputs.{IsOutput, IsOutputBegun};
-ghost use Rattle.ether_make.specs.Program.{AfterFault, AfterTaking, BreaksLine, HasMade, ReadsLine, TakesLine};
+ghost use Rattle.ether_make.specs.Outputs.{IsOutput};
+ghost use Rattle.ether_make.specs.Program.{AfterFault, AfterTaking, BreaksLine, Continues, HasMade, ReadsLine, TakesLine};
 
 use crate::lines::{LineFault, Stop, line_frame};
 use crate::output::{finished, write_end, write_frame};
@@ -30,33 +30,36 @@ pub fn run<R: BufRead, W: Write>(
     reader: &mut R,
     writer: &mut W,
 ) -> Result<(), RunFault>
-    ensures made { OnOk result (HasMade (IsOutput settings.now) (R.remaining reader.old) (R.remaining reader.new)
+    ensures made { OnOk result (HasMade None (IsOutput settings.now) (R.remaining reader.old) (R.remaining reader.new)
         (W.contents writer.old) (W.contents writer.new)) }
-    ensures fault { IfErr result (AfterFault (IsOutput settings.now) (R.remaining reader.old) (R.remaining reader.new)
+    ensures fault { IfErr result (AfterFault None (IsOutput settings.now) (R.remaining reader.old) (R.remaining reader.new)
         (W.contents writer.old) (W.contents writer.new)) }
 {
     let mut link = None;
     match make_lines(alloc, settings, reader, writer, &mut link) {
+        Ok(()) => match write_end(settings, writer, link) {
+            Ok(()) => Ok(()),
+            Err(error) => Err(RunFault::Output(error)),
+        },
         Err(RunFault::Output(error)) => Err(RunFault::Output(error)),
-        ending => match write_end(settings, writer, link) {
-            Ok(()) => ending,
+        Err(fault) => match write_end(settings, writer, link) {
+            Ok(()) => Err(fault),
             Err(error) => Err(RunFault::Output(error)),
         },
     }
 }
 
-/// Makes the frames of all lines, and writes them.
-fn make_lines<R: BufRead, W: Write>(
+/// Makes the frames of all lines, and writes them after frames with this link type, if there are any.
+pub(crate) fn make_lines<R: BufRead, W: Write>(
     alloc: Global,
     settings: &Settings,
     reader: &mut R,
     writer: &mut W,
     link: &mut Option<u16>,
 ) -> Result<(), RunFault>
-    requires { link.old ≡ None }
-    ensures made { OnOk result (HasMade (IsOutputBegun settings.now link.new) (R.remaining reader.old)
+    ensures made { OnOk result (HasMade link.old (Continues settings.now link.old link.new) (R.remaining reader.old)
         (R.remaining reader.new) (W.contents writer.old) (W.contents writer.new)) }
-    ensures fault { IfErr result (AfterFault (IsOutputBegun settings.now link.new) (R.remaining reader.old)
+    ensures fault { IfErr result (AfterFault link.old (Continues settings.now link.old link.new) (R.remaining reader.old)
         (R.remaining reader.new) (W.contents writer.old) (W.contents writer.new)) }
 {
     let mut line = Vec::new(alloc);
@@ -141,7 +144,7 @@ pub fn status_of(stop: &Stop) -> u8
 }
 
 impl fmt::Display for Stop {
-    fn fmt<W: fmt::Write>(&self, f: &mut fmt::Formatter<W>) -> Result<(), fmt::Error> {
+    fn fmt<W: fmt::Write>(&self, f: &mut fmt::Formatter<W>) -> fmt::Result {
         let line = self.line;
         match &self.fault {
             LineFault::NotJson => write!(f, "line {line}: this is no JSON text"),

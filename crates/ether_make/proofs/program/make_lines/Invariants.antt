@@ -3,5 +3,6 @@ use Rattle.ether_make.proofs.program.make_lines.Given as goal
 
 abbrev pub invariant-loop-number : goal.invariant-loop-number
 invariant-loop-number g l =
-    Doing l.settings (g.R.Read.remaining l.fn.reader) (g.R.Read.remaining l.reader) (g.W.Write.contents l.fn.writer)
+    Doing l.settings l.fn.link (g.R.Read.remaining l.fn.reader) (g.R.Read.remaining l.reader)
+    (g.W.Write.contents l.fn.writer)
     (g.W.Write.contents l.writer) l.number l.link

@@ -2,7 +2,7 @@ use Rattle.std.proofs.Common.{take, false}
 use Rattle.std.specs.Io.KnownBytes.{Appends}
 use Rattle.std.specs.List.{flat_map}
 use Rattle.ether_base.specs.Texts.NumberText.{hex_byte}
-use Rattle.ether_make.proofs.hex.write_line.Given as goal
+use Rattle.ether_make.proofs.hex_lines.write_line.Given as goal
 
 abbrev pub invariant-loop-byte : goal.invariant-loop-byte
 invariant-loop-byte g l =
