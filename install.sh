@@ -33,7 +33,7 @@ put() {
 
 programs() {
     built=${PROGRAMS:-}
-    for name in ether_tool ether_capture; do
+    for name in ether_tool ether_capture ether_make; do
         program=${built:-$here/crates/$name/out}/$name
         if [ "$action" = install ] && [ ! -f "$program" ]; then
             built=$(sh "$here/rust/build.sh" ether_tools)

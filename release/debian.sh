@@ -70,9 +70,10 @@ chmod 644 "$work/libetherpeel3$lib/libetherpeel.so.3.0.0"
 mv "$work/all/usr" "$work/libetherpeel-dev"
 echo "libetherpeel 3 libetherpeel3" > "$work/libetherpeel3/DEBIAN/shlibs"
 echo "activate-noawait ldconfig" > "$work/libetherpeel3/DEBIAN/triggers"
-package ether-tools net "$(python3 release/depends.py "$work"/ether-tools/usr/bin/*)" "print the link-layer headers of frames and of captures" \
+package ether-tools net "$(python3 release/depends.py "$work"/ether-tools/usr/bin/*)" "print and make the link-layer headers of frames and of captures" \
     " ether_tool reads frames as hexadecimal digits, ether_capture captures, pcap or
- pcapng. They print the link-layer headers, or copy a capture." ether_tools
+ pcapng. They print the link-layer headers, or copy a capture.
+ ether_make makes frames of objects of JSON." ether_tools
 package libetherpeel3 libs "$(python3 release/depends.py "$work/libetherpeel3$lib/libetherpeel.so.3.0.0")" "walk through the link-layer headers of a frame" \
     " Ethernet II, VLAN tags, MACsec SecTags, Linux cooked capture and ARP: the walk,
  fields, packets, captures and filters. No call allocates memory." etherpeel_c

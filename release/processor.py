@@ -42,7 +42,7 @@ def main():
         print(f"left out: the packages for {name}, since {why}", file=sys.stderr)
         return 3
     os.makedirs(given.folder, exist_ok=True)
-    for program in ("ether_tool", "ether_capture"):
+    for program in ("ether_tool", "ether_capture", "ether_make"):
         shutil.copy(f"{built('ether_tools', name, ['--bins'])}/{program}", given.folder)
     # Debian's compiler_builtins names what unwinds a panic, which the library, which aborts, does not have.
     objcopy = [f"{name}-linux-gnu-objcopy", "--remove-section=.llvmbc", "--remove-section=.llvmcmd", "--weaken-symbol=rust_eh_personality"]

@@ -18,6 +18,7 @@ import building  # noqa: E402
 
 TOP = os.path.dirname(building.HERE)
 TESTS = [("ether_tool", "tests/ether_tool.py"), ("ether_capture", "tests/ether_capture.py", "--gzip"), ("ether_capture", "tests/other_programs.py"),
+         ("ether_make", "tests/ether_make.py"),
          ("ether_capture", "rust/endings.py"), ("ether_capture", "rust/packed.py"), ("ether_capture", "rust/threads.py")]
 EXAMPLES = ["example_switch", "example_vlan_rewriter"]
 RELEASE = os.path.join(building.PROGRAMS, "target", "release")

@@ -203,6 +203,7 @@ def check_completions():
     values, modes = ["lines", "brief", "json", "csv"], {"eth", "fcs", "sll", "type", "feed", "limit"}
     check("--format in bash", completed("ether_capture", "--format", "") == values, completed("ether_capture", "--format", ""))
     check("--undecided in bash", completed("ether_capture", "--undecided", "k") == ["keep"])
+    check("ether_make in bash", completed("ether_make", "--f") == ["--fcs"], completed("ether_make", "--f"))
     check("ether_tool in bash", modes <= {*completed("ether_tool", "")}, completed("ether_tool", ""))
     if not shutil.which("fish"):
         print("left out: completions in fish, which was not found")

@@ -1,4 +1,6 @@
 """The rules for the libraries of the programs, which use readers and writers of std, and for what calls them."""
+import re
+
 from .rules import RULES as LIBRARY_RULES, inline_hints
 from .tokens import Refused, closing, places, respell
 
@@ -58,6 +60,35 @@ def memory(tokens):
         respell(tokens, i, end, "Ok(format!(")
 
 
+# Calls that take memory, as methods of lists; in Rust others have these names, which return that memory was refused.
+TAKING = {"push": "try_push", "extend_from_slice": "try_extend_from_slice"}
+
+
+def lists(tokens):
+    """What takes memory is passed the allocator, and may be refused it. In Rust it is by hand what may be refused it, too."""
+    made = "crate::memory::"
+    for i, end in places(tokens, "Vec::new(alloc)"):
+        respell(tokens, i, end, f"{made}list(alloc)")
+    for i, end in places(tokens, "Vec::with_capacity(alloc,"):
+        respell(tokens, i, end, f"{made}list_for(alloc,")
+    for i, end in places(tokens, "String::from_str(alloc,"):
+        respell(tokens, i, end, f"{made}text_of(alloc,")
+    for i, end in places(tokens, "Value::from_slice(alloc, text)"):
+        respell(tokens, i, end, "crate::json::from_slice(alloc, text)")
+    for i, end in places(tokens, "use serde_json::"):
+        respell(tokens, i, end, "use crate::json::")
+    is_taking = False
+    for i, token in enumerate(tokens[:-2]):
+        if token.text == "." and tokens[i + 1].text in TAKING and tokens[i + 2].text == "(":
+            tokens[i + 1].text = TAKING[tokens[i + 1].text]
+            is_taking = True
+    for names in ("{AllocError, Global}", "AllocError", "Global"):
+        for i, end in places(tokens, f"use std::alloc::{names};"):
+            told = [*re.findall(r"\w+", names), *["Taking"] * is_taking]
+            respell(tokens, i, end, f"use {made}{{{', '.join(told)}}};" if len(told) > 1 else f"use {made}{told[0]};")
+
+
 # A program is compiled as one module with what is made here.
 RULES = [*(rule for rule in LIBRARY_RULES if rule != inline_hints), allocators, collected]
 EXAMPLE_RULES = [*RULES, memory]
+MAKE_RULES = [lists, *(rule for rule in RULES if rule != allocators)]

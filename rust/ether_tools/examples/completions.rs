@@ -1,8 +1,7 @@
 //! Writes the completions of the programs for bash, zsh and fish into a folder: `cargo run --example completions FOLDER`.
 use clap::{Arg, ArgAction, Command, ValueHint};
 use clap_complete::{Shell, generate_to};
-use ether_tools::ether_capture::option_table::{OPTIONS, OptionRow};
-use ether_tools::ether_capture::options::command;
+use ether_tools::{ether_capture, ether_make};
 use std::{env, fs::OpenOptions, io, io::Write};
 
 /// The words of `ether_tool`.
@@ -12,6 +11,7 @@ fn main() -> io::Result<()> {
     let folder = env::args_os().nth(1).unwrap_or_else(|| ".".into());
     for shell in [Shell::Bash, Shell::Zsh, Shell::Fish] {
         generate_to(shell, &mut capture(), "ether_capture", &folder)?;
+        generate_to(shell, &mut make(), "ether_make", &folder)?;
         let path = generate_to(shell, &mut tool(), "ether_tool", &folder)?;
         if shell == Shell::Fish {
             // clap_complete writes nothing for words that are no options
@@ -24,18 +24,24 @@ fn main() -> io::Result<()> {
 
 /// The words of `ether_capture`, with the values of its options.
 fn capture() -> Command {
-    OPTIONS
-        .iter()
-        .filter(|row| row.value.is_some())
-        .fold(command(), |known, row| known.mut_arg(row.name, |arg| valued(arg, row)))
+    let rows = ether_capture::option_table::OPTIONS.iter();
+    let values = rows.filter_map(|row| Some((row.name, row.value?)));
+    values.fold(ether_capture::options::command(), |known, (name, value)| known.mut_arg(name, |arg| valued(arg, value)))
 }
 
-/// An option with its values, if the table lists them. Only names of files are completed otherwise.
-fn valued(arg: Arg, row: &'static OptionRow<&str>) -> Arg {
-    match row.value {
-        Some("FILE" | "COPY") | None => arg,
-        Some(value) if value.contains('|') => arg.value_parser(value.split('|').collect::<Vec<_>>()),
-        Some(_) => arg.value_hint(ValueHint::Other),
+/// The same of `ether_make`.
+fn make() -> Command {
+    let rows = ether_make::option_table::OPTIONS.iter();
+    let values = rows.filter_map(|row| Some((row.name, row.value?)));
+    values.fold(ether_make::options::command(), |known, (name, value)| known.mut_arg(name, |arg| valued(arg, value)))
+}
+
+/// An option with its values, if its word lists them. Only names of files are completed otherwise.
+fn valued(arg: Arg, value: &'static str) -> Arg {
+    match value {
+        "FILE" | "COPY" => arg,
+        value if value.contains('|') => arg.value_parser(value.split('|').collect::<Vec<_>>()),
+        _ => arg.value_hint(ValueHint::Other),
     }
 }
 

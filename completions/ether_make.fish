@@ -1,0 +1,9 @@
+complete -c ether_make -l count -d 'make N frames at most, of all lines together' -r -f
+complete -c ether_make -l seed -d 'draw random numbers from N, 0 without it' -r -f
+complete -c ether_make -l rate -d 'give N frames a second their times' -r -f
+complete -c ether_make -s w -d 'write to FILE, in place of standard output' -r -F
+complete -c ether_make -l pad -d 'add zeros to frames of Ethernet that have fewer than 60 bytes, up to 60'
+complete -c ether_make -l fcs -d 'append its check sequence to each frame of Ethernet'
+complete -c ether_make -l hex -d 'write each frame as a line of hexadecimal digits, as ether_tool reads it'
+complete -c ether_make -s h -l help -d 'Print help information'
+complete -c ether_make -s V -l version -d 'Print version information'

@@ -1,0 +1,75 @@
+//! Bits of numbers and bytes.
+
+use crate::ether_make::memory::{AllocError, Taking};
+
+/// Appends the last `count` bits of a number.
+///
+/// <details><summary>Contract</summary>
+///
+/// ```text
+/// ensures { OnOk result (bits.new.items ≡ bits.old.items ++ bits_in count value) }
+/// ```
+///
+/// </details>
+pub fn push_bits(bits: &mut Vec<bool>, count: usize, value: u64) -> Result<(), AllocError> {
+    let mut left = count;
+    while left > 0 {
+        left -= 1;
+        bits.try_push(bit_of(value, left))?;
+    }
+    Ok(())
+}
+
+/// Appends the bits of bytes.
+///
+/// <details><summary>Contract</summary>
+///
+/// ```text
+/// ensures { OnOk result (bits.new.items ≡ bits.old.items ++ bits_of bytes.now) }
+/// ```
+///
+/// </details>
+pub fn push_bytes(bits: &mut Vec<bool>, bytes: &[u8]) -> Result<(), AllocError> {
+    for byte in bytes {
+        push_bits(bits, 8, u64::from(*byte))?;
+    }
+    Ok(())
+}
+
+/// Appends the bytes of bits.
+///
+/// <details><summary>Contract</summary>
+///
+/// ```text
+/// ensures { OnOk result (bytes.new.items ≡ bytes.old.items ++ packed bits.now) }
+/// ```
+///
+/// </details>
+pub fn pack(bytes: &mut Vec<u8>, bits: &[bool]) -> Result<(), AllocError> {
+    let mut at = 0;
+    while at + 8 <= bits.len() {
+        bytes.try_push(byte_at(bits, at))?;
+        at += 8;
+    }
+    Ok(())
+}
+
+/// The byte of eight bits.
+fn byte_at(bits: &[bool], at: usize) -> u8 {
+    128 * u8::from(bits[at])
+        + 64 * u8::from(bits[at + 1])
+        + 32 * u8::from(bits[at + 2])
+        + 16 * u8::from(bits[at + 3])
+        + 8 * u8::from(bits[at + 4])
+        + 4 * u8::from(bits[at + 5])
+        + 2 * u8::from(bits[at + 6])
+        + u8::from(bits[at + 7])
+}
+
+/// The bit at a place, counted from the last one.
+fn bit_of(value: u64, place: usize) -> bool {
+    if place >= 64 {
+        return false;
+    }
+    (value >> place) % 2 == 1
+}

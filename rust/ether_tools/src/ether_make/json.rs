@@ -1,0 +1,149 @@
+//! Values of JSON, which `serde_json` reads. Written by hand, not proved.
+use crate::ether_make::memory::Global;
+use serde::de::{Deserialize, Deserializer, MapAccess, SeqAccess, Visitor};
+use std::fmt;
+
+/// A value of JSON, as far as the program tells values apart.
+pub enum Value {
+    /// `null`.
+    Null,
+    /// A number from 0 on that has 64 bits.
+    Number(u64),
+    /// A text.
+    Text(String),
+    /// An array.
+    Array(Vec<Value>),
+    /// An object.
+    Object(Map<String, Value>),
+    /// Another number, or a truth value.
+    Other,
+}
+
+/// The members of an object, in their order. One whose name is there again has the last value.
+pub struct Map<K, V> {
+    members: Vec<(K, V)>,
+}
+
+/// A text is no value of JSON. `serde_json` ends the program if it gets no memory.
+pub struct NoValue;
+
+impl NoValue {
+    /// Tests that memory was refused.
+    pub fn is_memory(&self) -> bool {
+        false
+    }
+}
+
+/// The value of a text.
+pub fn from_slice(_alloc: Global, text: &[u8]) -> Result<Value, NoValue> {
+    serde_json::from_slice(text).map_err(|_| NoValue)
+}
+
+impl<V> Map<String, V> {
+    /// The names of the members.
+    pub fn keys(&self) -> impl Iterator<Item = &String> {
+        self.members.iter().map(|(name, _)| name)
+    }
+
+    /// Adds a member, or replaces its value.
+    fn insert(&mut self, name: String, value: V) {
+        match self.members.iter_mut().find(|(it, _)| *it == name) {
+            Some((_, old)) => *old = value,
+            None => self.members.push((name, value)),
+        }
+    }
+}
+
+impl Value {
+    /// The value of a member of an object.
+    pub fn get(&self, name: &str) -> Option<&Value> {
+        self.as_object()?.members.iter().find(|(it, _)| it == name).map(|(_, value)| value)
+    }
+
+    /// Tests that the value is `null`.
+    pub fn is_null(&self) -> bool {
+        matches!(self, Value::Null)
+    }
+
+    /// Tests that the value is an object.
+    pub fn is_object(&self) -> bool {
+        matches!(self, Value::Object(_))
+    }
+
+    /// A number from 0 on.
+    pub fn as_u64(&self) -> Option<u64> {
+        if let Value::Number(number) = self { Some(*number) } else { None }
+    }
+
+    /// A text.
+    pub fn as_str(&self) -> Option<&str> {
+        if let Value::Text(text) = self { Some(text) } else { None }
+    }
+
+    /// An array.
+    pub fn as_array(&self) -> Option<&Vec<Value>> {
+        if let Value::Array(values) = self { Some(values) } else { None }
+    }
+
+    /// An object.
+    pub fn as_object(&self) -> Option<&Map<String, Value>> {
+        if let Value::Object(map) = self { Some(map) } else { None }
+    }
+}
+
+impl<'de> Deserialize<'de> for Value {
+    fn deserialize<D: Deserializer<'de>>(from: D) -> Result<Value, D::Error> {
+        from.deserialize_any(AnyValue)
+    }
+}
+
+/// Takes each value of JSON.
+struct AnyValue;
+
+impl<'de> Visitor<'de> for AnyValue {
+    type Value = Value;
+
+    fn expecting(&self, f: &mut fmt::Formatter<'_>) -> fmt::Result {
+        f.write_str("a value of JSON")
+    }
+
+    fn visit_unit<E>(self) -> Result<Value, E> {
+        Ok(Value::Null)
+    }
+
+    fn visit_bool<E>(self, _: bool) -> Result<Value, E> {
+        Ok(Value::Other)
+    }
+
+    fn visit_u64<E>(self, number: u64) -> Result<Value, E> {
+        Ok(Value::Number(number))
+    }
+
+    fn visit_i64<E>(self, _: i64) -> Result<Value, E> {
+        Ok(Value::Other)
+    }
+
+    fn visit_f64<E>(self, _: f64) -> Result<Value, E> {
+        Ok(Value::Other)
+    }
+
+    fn visit_str<E>(self, text: &str) -> Result<Value, E> {
+        Ok(Value::Text(text.to_owned()))
+    }
+
+    fn visit_seq<A: SeqAccess<'de>>(self, mut from: A) -> Result<Value, A::Error> {
+        let mut values = Vec::new();
+        while let Some(value) = from.next_element()? {
+            values.push(value);
+        }
+        Ok(Value::Array(values))
+    }
+
+    fn visit_map<A: MapAccess<'de>>(self, mut from: A) -> Result<Value, A::Error> {
+        let mut map = Map { members: Vec::new() };
+        while let Some((name, value)) = from.next_entry()? {
+            map.insert(name, value);
+        }
+        Ok(Value::Object(map))
+    }
+}

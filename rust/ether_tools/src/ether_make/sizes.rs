@@ -1,0 +1,129 @@
+//! How many bits a header has in the fields whose length is not the same in each header.
+
+use crate::ether_make::field_bits::has_dot;
+use crate::ether_make::objects::{given, number_of};
+use etherpeel::ether_fields::{Extent, Sizes};
+use crate::ether_make::json::Value;
+
+/// What an object says of the lengths of the fields of its header.
+#[derive(Clone, Copy, PartialEq, Eq, Debug)]
+pub struct Lengths {
+    /// The bits of the fields that do not have the same number of bits in each header.
+    pub sizes: Sizes,
+    /// The length of the address of a cooked capture, in bytes. May exceed the 8 bytes of its field.
+    pub address: u64,
+}
+
+/// Those of the header that an object means.
+///
+/// <details><summary>Contract</summary>
+///
+/// ```text
+/// ensures { result ≡ lengths_of_in (view object.now) }
+/// ```
+///
+/// </details>
+pub fn lengths_of(object: &Value) -> Lengths {
+    Lengths {
+        sizes: sizes_of(object),
+        address: address_len(object),
+    }
+}
+
+/// The length of the address of a cooked capture.
+fn address_len(object: &Value) -> u64 {
+    if let Some(len) = given_number(object, "addr_len") {
+        return len;
+    }
+    match address_size(object, "addr") {
+        Some(size) => u64::from(size),
+        None => 6,
+    }
+}
+
+/// A number that is given.
+fn given_number(object: &Value, name: &str) -> Option<u64> {
+    number_of(given(object, name)?)
+}
+
+/// Whether a SecTag has an SCI: if its SC bit says so, or if that bit is missing and an SCI is given.
+fn has_sci(object: &Value) -> bool {
+    if given(object, "sc").is_some() {
+        !is_zero(object, "sc")
+    } else {
+        given(object, "sci").is_some()
+    }
+}
+
+/// The bits of the fields that do not have the same number of bits in each header.
+fn sizes_of(object: &Value) -> Sizes {
+    Sizes {
+        hardware: 8 * u16::from(size(object, "hln", "sha", "tha", 6)),
+        protocol: 8 * u16::from(size(object, "pln", "spa", "tpa", 4)),
+        has_sci: has_sci(object),
+        has_payload_type: is_zero(object, "e") && is_zero(object, "c"),
+    }
+}
+
+/// Whether a flag is missing, or no number but 0.
+fn is_zero(object: &Value, name: &str) -> bool {
+    match given(object, name) {
+        Some(value) => number_of(value) == Some(0),
+        None => true,
+    }
+}
+
+/// The size of an address: the one that is given, or that of the first of two addresses that is given.
+fn size(object: &Value, count: &str, first: &str, second: &str, usual: u8) -> u8 {
+    if let Some(size) = given_size(object, count) {
+        return size;
+    }
+    if let Some(size) = address_size(object, first) {
+        return size;
+    }
+    address_size(object, second).unwrap_or(usual)
+}
+
+/// A size that is given.
+fn given_size(object: &Value, name: &str) -> Option<u8> {
+    let number = number_of(given(object, name)?)?;
+    if number < 256 {
+        Some(number as u8)
+    } else {
+        None
+    }
+}
+
+/// The size of an address that is given.
+fn address_size(object: &Value, name: &str) -> Option<u8> {
+    text_size(given(object, name)?.as_str()?.as_bytes())
+}
+
+/// How many bytes a text spells.
+fn text_size(text: &[u8]) -> Option<u8> {
+    if has_dot(text) {
+        return Some(4);
+    }
+    let len = text.len().div_ceil(3);
+    if len < 256 { Some(len as u8) } else { None }
+}
+
+/// How many bits a field has, if it is there.
+///
+/// <details><summary>Contract</summary>
+///
+/// ```text
+/// ensures { result ≡ bits_of (Header sizes.now) extent }
+/// ```
+///
+/// </details>
+pub fn len_of(extent: Extent, sizes: &Sizes) -> Option<usize> {
+    match extent {
+        Extent::Bits(len) => Some(usize::from(len)),
+        Extent::HardwareAddress => Some(usize::from(sizes.hardware)),
+        Extent::ProtocolAddress => Some(usize::from(sizes.protocol)),
+        Extent::SecureChannel if sizes.has_sci => Some(64),
+        Extent::PayloadType if sizes.has_payload_type => Some(16),
+        _ => None,
+    }
+}
