@@ -28,7 +28,8 @@ TOLD = "walks/walk: mixed", "takes {} instructions in the proved walk, {} by car
 # Each group with what its rows are divided by.
 GROUPS = {
     "walks": "C by hand", "calls": "the original", "packets": "the walk", "tags": "C by hand", "building": "one by one", "c_calls": "C by hand",
-    "switch": "C by hand", "filter_calls": "libpcap", "filters": "tcpdump", "captures": "the lines", "rows": "C by hand", "tool": "", "python": "",
+    "switch": "C by hand", "filter_calls": "libpcap", "filters": "tcpdump", "captures": "the lines", "rows": "C by hand", "frames": "compared with",
+    "tool": "", "python": "",
 }
 GROWN = 1.03
 HEAD = """# Instructions of an item, by callgrind: what is counted, the proved build, cargo's build, and what both are divided by.

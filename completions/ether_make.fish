@@ -1,6 +1,6 @@
-complete -c ether_make -l count -d 'make N frames at most, of all lines together' -r -f
-complete -c ether_make -l seed -d 'draw random numbers from N, 0 without it' -r -f
-complete -c ether_make -l rate -d 'give N frames a second their times' -r -f
+complete -c ether_make -l count -d 'make N frames of each line' -r -f
+complete -c ether_make -l seed -d 'draw the random numbers of ranges from N' -r -f
+complete -c ether_make -l rate -d 'let N frames follow each other in a second' -r -f
 complete -c ether_make -s w -d 'write to FILE, in place of standard output' -r -F
 complete -c ether_make -l pad -d 'add zeros to frames of Ethernet that have fewer than 60 bytes, up to 60'
 complete -c ether_make -l fcs -d 'append its check sequence to each frame of Ethernet'

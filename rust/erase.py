@@ -33,7 +33,7 @@ BY_HAND = [f"{NAME}/src/{path}.rs" for path in (
         "packet_headers", "payload_slice", "sliced_packet", "streams", "transport", "unchecked", "vlan_tags")),
 )] + [f"{PROGRAMS_NAME}/src/{path}.rs" for path in (
     "ether_text/noted", *(f"ether_capture/{it}" for it in ("capture_files", "copy_files", "count_table", "heap_memory", "heap_text", "interface_buffer", "memory", "options", "progress_line", "row_slots", "run_input")),
-    *(f"ether_make/{it}" for it in ("input_files", "json", "memory", "options")),
+    *(f"ether_make/{it}" for it in ("input_files", "json", "memory", "options", "random")),
 )]
 # The programs that are made, each with its folder; their `main`s are by hand. One is of tests.
 DRAWN = "drawn_calls"

@@ -20,6 +20,7 @@ import zlib
 from dataclasses import dataclass
 
 from programs import count
+from ranges import range_cases
 from sent_frames import sent_cases
 
 
@@ -537,7 +538,7 @@ def main():
     capture = given.capture or next((it for it in built if os.path.exists(it)), built[0])
     cases = [*frame_cases(given.program), *memory_cases(given.program), *padded_cases(given.program), *checked_cases(given.program), *hex_cases(given.program), *refused_cases(given.program), *word_cases(given.program), *file_cases(given.program),
              *scapy_cases(given.program), *tshark_cases(given.program),
-             *printed_cases(given.program, capture), *sent_cases(given.program)]
+             *printed_cases(given.program, capture), *range_cases(given.program), *sent_cases(given.program)]
     return count((name, got, wanted) for name, got, wanted in cases if given.word in name)
 
 

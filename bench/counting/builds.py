@@ -51,14 +51,14 @@ def compiled(room, name, sources, *words):
 class Proved:
     """What the compiler of the kit makes."""
     name = "proved"
-    tool, capture = (f"{TOP}/crates/{it}/out/{it}" for it in ("ether_tool", "ether_capture"))
+    tool, capture, make = (f"{TOP}/crates/{it}/out/{it}" for it in ("ether_tool", "ether_capture", "ether_make"))
     calls = f"{TOP}/crates/ether_c/out/libether_c.a"
 
     def missing(self):
         """Why there is no such build, or None."""
         if shutil.which("rt") is None:
             return "rt was not found"
-        needed = [self.tool, self.capture, self.calls]
+        needed = [self.tool, self.capture, self.make, self.calls]
         return next((f"{os.path.relpath(it, TOP)} is not built: run `rt ci` and `sh c/test.sh proved`" for it in needed if not os.path.isfile(it)), None)
 
     def library(self, room, name, crates, sources):
@@ -74,7 +74,7 @@ class Proved:
 class Cargo:
     """What cargo makes of the sources without their proofs."""
     name = "cargo"
-    tool, capture = (f"{building.PROGRAMS}/target/release/{it}" for it in ("ether_tool", "ether_capture"))
+    tool, capture, make = (f"{building.PROGRAMS}/target/release/{it}" for it in ("ether_tool", "ether_capture", "ether_make"))
     calls = f"{building.CALLS}/target/release/libetherpeel_c.a"
 
     def missing(self):

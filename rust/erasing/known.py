@@ -74,16 +74,18 @@ CALL_METHODS = set("split_at wrapping_mul".split())
 # What the libraries of the programs use besides.
 PROGRAM_TEXTS = "#[error("  # the text of an error, by thiserror
 PROGRAM_MACROS = {"write": "(", "writeln": "(", "format": "("}
-PROGRAM_NAMES = {"AllocError", "BufRead", "ErrorKind", "Global", "Map", "NonZeroUsize", "Noted", "PhantomData", "String", "Vec", "Read", "Taking", "Value", "Write", "from_slice", "json", "list", "list_for", "memory", "tell_failure", "text_of"}
+PROGRAM_NAMES = {"AllocError", "BufRead", "ErrorKind", "Global", "Map", "NextWord", "NonZeroUsize", "Noted", "PhantomData", "String", "Vec", "Read", "SeedableRng", "SplitMix64", "Taking", "Value", "Write", "from_slice", "json", "list", "list_for", "memory", "random", "tell_failure", "text_of"}
 PROGRAM_PATHS = set(
     """std::env std::error::Error std::fmt std::io std::io::ErrorKind std::io::Read std::io::Write std::marker::PhantomData std::num::NonZeroUsize
     ErrorKind::Interrupted NonZeroUsize::new env::Args io::Error
     std::io::BufRead
+    SplitMix64::seed_from_u64
     io::Result io::Sink io::Write io::sink hex::decode_to_slice hex::encode_to_slice thiserror::Error u64::MAX""".split()
 )
 PROGRAM_METHODS = set(
     """as_bytes collect into_iter is_ascii_digit wrapping_mul flush kind parse position read saturating_mul split_at starts_with write write_all
-    as_array as_object as_str as_u64 clear first is_memory is_null is_object keys read_until truncate try_extend_from_slice try_push""".split()
+    as_array as_bool as_mut_slice as_object as_str checked_add checked_div checked_mul copy_from_slice next_word split_at_mut
+    as_u64 clear first is_memory is_null is_object keys read_until truncate try_extend_from_slice try_push""".split()
 )
 
 # What the programs among the examples use besides.

@@ -77,6 +77,9 @@ def lists(tokens):
         respell(tokens, i, end, "crate::json::from_slice(alloc, text)")
     for i, end in places(tokens, "use serde_json::"):
         respell(tokens, i, end, "use crate::json::")
+    for name in ("rand_core::SeedableRng", "rand_core::utils::NextWord", "rand_xoshiro::SplitMix64"):
+        for i, end in places(tokens, f"use {name};"):
+            respell(tokens, i, end, f"use crate::random::{name.split('::')[-1]};")
     is_taking = False
     for i, token in enumerate(tokens[:-2]):
         if token.text == "." and tokens[i + 1].text in TAKING and tokens[i + 2].text == "(":

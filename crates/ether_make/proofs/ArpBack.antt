@@ -19,14 +19,14 @@ use Rattle.ether_format.specs.Told.{Walked, told_members}
 use Rattle.ether_make.specs.Bits.{bits, bits_of, packed}
 use Rattle.ether_make.specs.FieldBits.{bytes_bits, given_bits}
 use Rattle.ether_make.specs.Headers.{fields_meaning, header_bytes, names, section_given}
-use Rattle.ether_make.specs.Objects.{given, not_null_of, number_of}
+use Rattle.ether_make.specs.Objects.{first_given, not_null_of, number_of}
 use Rattle.ether_make.specs.PacketData.{value_data, members_data}
 use Rattle.ether_make.specs.Sizes.{address_size, byte_size, lengths_of, size}
 use Rattle.ether_make.specs.declared.sizes.Lengths.{Lengths}
 use Rattle.ether_make.proofs.BitBytes.{bits-join, number_packed, bytes_packed}
 use Rattle.ether_make.proofs.DataLemmas.{data_known}
 use Rattle.ether_make.proofs.FieldsBack.{number_given, bytes_given, colon_given, places_skipped, fields_are}
-use Rattle.ether_make.proofs.HeadersBack.{given_data, made}
+use Rattle.ether_make.proofs.HeadersBack.{given_data, made, raw_data}
 use Rattle.ether_make.proofs.TextsBack.{colon_no_dot, dotted_read, dotted_has_dot}
 
 -- ---- the address of a protocol
@@ -50,7 +50,7 @@ address_given true len (a ∷ b ∷ bs) ok four e =
 -- ---- sizes
 
 size_given : (count first second : List ℕ) (usual n : ℕ) (d : Data) → n < 256
-    → given count d ≡ Some (number (unsigned n))
+    → first_given count d ≡ Some (number (unsigned n))
     → size count first second usual d ≡ n
 size_given count first second usual n d small e =
     ap (λ o. unwrap_or (option_or (option_and_then byte_size (option_and_then number_of o)) (option_or
@@ -193,7 +193,7 @@ module _ (at : ℕ) (next : Option Section) (place : Place) (a : ArpValue) (fits
 
   pub arp_back : header_bytes at next arp_data ≡ Ok (arp_bytes a)
   arp_back =
-      made at next arp_data sections.Arp _ (ap section_given (given_data (codes "header") arp))
+      made at next arp_data sections.Arp _ (ap section_given (raw_data (codes "header") arp))
       (data_known (names sections.Arp) arp refl) arp_fields
       ∙ ap Ok (ap packed front_append ∙ number_packed 8 (arp_front_number (arp_front_of a)) addresses
       ∙ ap (λ x. spelled 8 (arp_front_number (arp_front_of a)) ++ x) addresses_packed

@@ -7,7 +7,7 @@ use Rattle.ether_base.specs.Bytes.{IsBytes, bit, spelled}
 use Rattle.etherparse.proofs.Numbers.{IsBytes-tail, IsBytes-spelled}
 use Rattle.ether_make.specs.Bits.{bits, bits_of, packed}
 
-bits-suc : (k n : ℕ) → bits (suc k) n ≡ nat_eq (n / 2 ^ k % 2) 1 ∷ bits k n
+pub bits-suc : (k n : ℕ) → bits (suc k) n ≡ nat_eq (n / 2 ^ k % 2) 1 ∷ bits k n
 unfolding bits
 bits-suc k n = refl
 
@@ -19,7 +19,7 @@ two_power : (k : ℕ) → 2 ^ suc k ≡ 2 ^ k * 2
 two_power k = let e : suc k ≡ k + 1 = omega arith in ap (λ j. 2 ^ j) e ∙ pow-add 2 k 1
 
 -- what is above k bits is no part of them
-bits-low : (k c y : ℕ) → bits k (c * 2 ^ k + y) ≡ bits k y
+pub bits-low : (k c y : ℕ) → bits k (c * 2 ^ k + y) ≡ bits k y
 bits-low zero c y = bits-zero _ ∙ sym (bits-zero y)
 bits-low (suc k) c y =
     let unit = 2 ^ k in
@@ -78,13 +78,13 @@ bytes_packed (b ∷ bs) ok rest =
     ap packed (append_assoc (bits 8 b) (bits_of bs) rest) ∙ byte_packed b (ok 0) (bits_of bs ++ rest)
     ∙ ap (λ l. b ∷ l) (bytes_packed bs (IsBytes-tail b bs ok) rest)
 
-byte_power : (k : ℕ) → 256 ^ k ≡ 2 ^ (8 * k)
+pub byte_power : (k : ℕ) → 256 ^ k ≡ 2 ^ (8 * k)
 byte_power zero = refl
 byte_power (suc k) =
     let more : 8 * suc k ≡ 8 * k + 8 = omega arith in
     pow-suc 256 k ∙ ap (λ m. m * 256) (byte_power k) ∙ sym (pow-add 2 (8 * k) 8) ∙ ap (λ j. 2 ^ j) (sym more)
 
-bits-mod : (k n : ℕ) → bits k (n % 2 ^ k) ≡ bits k n
+pub bits-mod : (k n : ℕ) → bits k (n % 2 ^ k) ≡ bits k n
 bits-mod k n = sym (bits-low k (n / 2 ^ k) (n % 2 ^ k)) ∙ ap (bits k) (div-add-mod' n (2 ^ k))
 
 -- the bits of the bytes that spell a number are those of the number

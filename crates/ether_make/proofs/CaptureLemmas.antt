@@ -81,7 +81,7 @@ ends-later {fcs = fcs} link frames bytes (some f fs b c) =
 
 pub first-grows : {fcs : Bool} (link : Option ℕ) (frame : FrameValue) (held mid holds : Option (List ℕ)) → link ≡ None
     → WritesPart (IsHeaderOf fcs frame.link) held mid
-    → WritesPart (IsRecordOf frame) mid holds → Grows (IsBegun fcs) link (linked link frame) frame held holds
+    → WritesPart (IsRecordOf frame) mid holds → Grows (IsBegun fcs) link (linked link frame) (frame ∷ []) held holds
 first-grows (Some l) frame held mid holds e h one = absurd (true≢false (ap is_some e))
 first-grows None frame held mid holds e h one = record {
   more = h.part ++ one.part;
@@ -92,7 +92,7 @@ first-grows None frame held mid holds e h one = record {
 pub later-grows : {fcs : Bool} (link : Option ℕ) (l : ℕ) (frame : FrameValue) (held holds : Option (List ℕ)) → link ≡
     Some l
     → WritesPart (IsRecordOf frame) held holds
-    → Grows (IsBegun fcs) link (linked link frame) frame held holds
+    → Grows (IsBegun fcs) link (linked link frame) (frame ∷ []) held holds
 later-grows None l frame held holds e one = absurd (true≢false (ap is_some (sym e)))
 later-grows (Some k) l frame held holds e one = record {
   more = one.part;

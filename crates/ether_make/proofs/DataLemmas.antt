@@ -2,14 +2,18 @@
 use Rattle.std.proofs.Common.{◌≡◌, ℕ, Bool, true, false, cond, ◌&&◌, List, [], ◌∷◌, Option, Some, None, bytes_eq, refl, sym, ap, ◌∙◌}
 use Rattle.std.proofs.lemmas.Bool.{and_parts, true≢false}
 use Rattle.std.proofs.lemmas.Slice.Eq.{bytes_eq-Decides}
+use Rattle.std.specs.Prelude.{if◌then◌else◌}
+use Rattle.std.specs.Option.{option_and_then}
 use Rattle.std.specs.Cmp.Lexicographic.{slice_cmp}
 use Rattle.std.specs.Ordering.{nat_cmp, match_ordering}
 use Rattle.std.proofs.Common.{Ordering, Less, Equal, Greater}
-use Rattle.serde_json.specs.Data.{Data, Members, no_members, member, put}
+use Rattle.serde_json.specs.Data.{Data, Num, number, string, Members, no_members, member, put}
 use Rattle.serde_json.specs.Find.{get, get_member}
 use Rattle.serde_json.proofs.Views.{get_member-put, get_member-put_other}
-use Rattle.ether_format.specs.Members.{Member}
-use Rattle.ether_make.specs.Objects.{is_among, unknown_in, unknown_member}
+use Rattle.ether_format.specs.Members.{Member, Value}
+use Rattle.ether_format.specs.Members as values
+use Rattle.ether_format.specs.Spelling.{has_date}
+use Rattle.ether_make.specs.Objects.{first_of, is_among, not_null, unknown_in, unknown_member}
 use Rattle.ether_make.specs.PacketData.{value_data, members_into, members_data}
 
 -- the value of the last member with this name, if there is one
@@ -68,3 +72,34 @@ into_known known (m ∷ ms) found h none =
 pub data_known : (known : List (List ℕ)) (ms : List Member) → all_known known ms ≡ true
     → unknown_member known (members_data ms) ≡ None
 data_known known ms h = into_known known ms no_members h refl
+
+-- ---- values that are no ranges
+
+abbrev pub IsPlain : Option Data → Type 0
+IsPlain o = option_and_then first_of (not_null o) ≡ not_null o
+
+text_or_number_plain : (b : Bool) (s : List ℕ) (n : Num) → IsPlain (Some (if b then string s else number n))
+text_or_number_plain true s n = refl
+text_or_number_plain false s n = refl
+
+value_plain : (v : Value) → IsPlain (Some (value_data v))
+value_plain values.Nothing = refl
+value_plain (values.Number n) = refl
+value_plain (values.Protocol n) = refl
+value_plain (values.Flag b) = refl
+value_plain (values.Bytes bytes) = refl
+value_plain (values.Dotted bytes) = refl
+value_plain (values.Word word) = refl
+value_plain (values.Text bytes) = refl
+value_plain (values.Time m) = text_or_number_plain (has_date m) _ _
+value_plain (values.Within interval m) = refl
+
+cond_plain : (b : Bool) (v : Value) (o : Option Data) → IsPlain o → IsPlain (cond b (Some (value_data v)) o)
+cond_plain true v o h = value_plain v
+cond_plain false v o h = h
+
+pub latest_plain : (name : List ℕ) (ms : List Member) (o : Option Data) → IsPlain o → IsPlain (latest name ms o)
+latest_plain name [] o h = h
+latest_plain name (m ∷ ms) o h =
+    latest_plain name ms (cond (bytes_eq name m.name) (Some (value_data m.value)) o)
+    (cond_plain (bytes_eq name m.name) m.value o h)

@@ -13,7 +13,7 @@ use Rattle.ether_format.specs.Spelling.{colon_text}
 use Rattle.ether_make.specs.Bits.{bits, bits_of}
 use Rattle.ether_make.specs.FieldBits.{number_bits, bytes_bits, given_bits, field_bits}
 use Rattle.ether_make.specs.Headers.{fields_meaning, part, rule, told}
-use Rattle.ether_make.specs.Objects.{given}
+use Rattle.ether_make.specs.Objects.{first_given}
 use Rattle.ether_make.specs.Refusals.{Meaning, joined}
 use Rattle.ether_make.specs.declared.sizes.Lengths.{Lengths}
 use Rattle.ether_make.proofs.BitBytes.{bits-zero}
@@ -49,14 +49,15 @@ module _ (at : ℕ) (l : Lengths) (next : Option Section) (d : Data) where
   places_skipped rows =
       let m = fields_meaning at l next d rows in
       let j : Meaning (List Bool) → Meaning (List Bool) = λ x. joined (Ok []) x in
-      ap (λ x. j (j (j (j x)))) (joined-nil m) ∙ ap (λ x. j (j (j x))) (joined-nil m) ∙ ap (λ x. j (j x)) (joined-nil m)
+      ap (λ x. j (j (j (j x)))) (joined-nil m) ∙ ap (λ x. j (j (j x))) (joined-nil m)
+      ∙ ap (λ x. j (j x)) (joined-nil m)
       ∙ ap j (joined-nil m) ∙ joined-nil m
 
   -- each field is given this value, which has these bits
   abbrev pub FieldsAre : List Row → List (Option Data × List Bool) → Type 0
   FieldsAre [] [] = ⊤
   FieldsAre (r ∷ rs) (f ∷ fs) =
-      (given r.name d ≡ f.0)
+      (first_given r.name d ≡ f.0)
       × (field_bits r.kind r.extent (places.bits_of (Header l.sizes) r.extent) (part l r.number) f.0
       (rule l next r.number) ≡ Ok f.1)
       × FieldsAre rs fs

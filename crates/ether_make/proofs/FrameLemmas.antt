@@ -14,7 +14,7 @@ use Rattle.ether_make.specs.declared.time_text.Time.{Time}
 use Rattle.ether_make.specs.declared.refusal.Fault.{Fault}
 use Rattle.ether_make.specs.declared.refusal.Fault.TheVariants as faults
 
-listed-items : (ds : List Data) → listed (items_of ds) ≡ ds
+pub listed-items : (ds : List Data) → listed (items_of ds) ≡ ds
 listed-items [] = refl
 listed-items (d ∷ ds) = ap (λ more. d ∷ more) (listed-items ds)
 
@@ -33,7 +33,8 @@ abbrev pub time_told : Data → Meaning Time
 time_told d = told None (codes "time") (time (given (codes "time") d))
 
 pub frame-bytes_fault : (d : Data) (fault : Fault) → unknown_member frame_names d ≡ None
-    → Tells (λ (v : Vec ℕ Global). v.items) (frame_bytes d) (Err fault) → Tells frame_view (frame_meaning d) (Err fault)
+    → Tells (λ (v : Vec ℕ Global). v.items) (frame_bytes d) (Err fault)
+    → Tells frame_view (frame_meaning d) (Err fault)
 frame-bytes_fault d (faults.Refused r) known h =
     ap (λ u. unless_unknown None u (framed (frame_bytes d) (link_told d) (time_told d))) known
     ∙ ap (λ b. framed b (link_told d) (time_told d)) h

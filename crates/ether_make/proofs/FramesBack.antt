@@ -26,7 +26,7 @@ use Rattle.ether_make.specs.PacketData.{members_data, members_into, headers_data
 use Rattle.ether_make.specs.Refusals.{Meaning, joined}
 use Rattle.ether_make.proofs.ArpBack.{arp_back}
 use Rattle.ether_make.proofs.DataLemmas.{put_found, put_known, into_known, data_known}
-use Rattle.ether_make.proofs.HeadersBack.{given_data, eth_back, vlan_back}
+use Rattle.ether_make.proofs.HeadersBack.{given_data, raw_data, eth_back, vlan_back}
 use Rattle.ether_make.proofs.JsonFits.{Each}
 use Rattle.ether_make.proofs.SecTagBack.{tag_back}
 
@@ -68,7 +68,7 @@ front_back : (hs : List Told) → BeginsLink hs → Each IsMade hs
     → front (Some (array (headers_data hs))) ≡ Ok (flat_map told_bytes hs)
 front_back (Walked place (headers.Ethernet2 e) None ∷ hs) first made =
     let eth = told_members (Walked place (headers.Ethernet2 e) None) in
-    let named : section_in (members_data eth) ≡ Ok sections.Eth = ap section_given (given_data (codes "header") eth) in
+    let named : section_in (members_data eth) ≡ Ok sections.Eth = ap section_given (raw_data (codes "header") eth) in
     let all = Walked place (headers.Ethernet2 e) None ∷ hs in
     ap (λ s. unless_no_link (if_named s) (headers_bytes 0 (listed (headers_data all)))) named ∙ all_back 0 all made
 front_back [] first made = absurd first

@@ -5,6 +5,7 @@ use Rattle.etherparse.specs.Ethernet2.{Ethernet2Value, FitsEthernet2, ethernet2_
 use Rattle.etherparse.specs.Vlan.{VlanValue, FitsVlan, vlan_number, vlan_bytes}
 use Rattle.etherparse.specs.Header as headers
 use Rattle.etherparse.proofs.Numbers.{IsBytes-spelled, length-spelled}
+use Rattle.std.specs.Option.{option_and_then}
 use Rattle.serde_json.specs.Data.{Data, number, unsigned, string}
 use Rattle.ether_fields.specs.Fields.{section_rows}
 use Rattle.ether_fields.specs.Rows.{vlan_rows, ethernet2_rows}
@@ -18,17 +19,22 @@ use Rattle.ether_make.specs.Bits.{bits, bits_of, packed}
 use Rattle.ether_format.specs.Spelling.{colon_text}
 use Rattle.ether_make.specs.FieldBits.{given_bits}
 use Rattle.ether_make.specs.Headers.{fields_meaning, header_bytes, names, section_in, section_given}
-use Rattle.ether_make.specs.Objects.{given, not_null, unknown_member}
+use Rattle.ether_make.specs.Objects.{first_given, first_of, given, not_null, unknown_member}
 use Rattle.ether_make.specs.PacketData.{members_data}
 use Rattle.ether_make.specs.Refusals.{result_map}
 use Rattle.ether_make.specs.Sizes.{lengths_of}
 use Rattle.ether_make.specs.declared.sizes.Lengths.{Lengths}
 use Rattle.ether_make.proofs.BitBytes.{bits-join, number_packed, bits_of-spelled}
-use Rattle.ether_make.proofs.DataLemmas.{latest, get_data, data_known}
+use Rattle.ether_make.proofs.DataLemmas.{latest, latest_plain, get_data, data_known}
 use Rattle.ether_make.proofs.FieldsBack.{number_given, colon_given, places_skipped, fields_are}
 
-pub given_data : (name : List ℕ) (ms : List Member) → given name (members_data ms) ≡ not_null (latest name ms None)
-given_data name ms = ap not_null (get_data name ms)
+pub raw_data : (name : List ℕ) (ms : List Member) → given name (members_data ms) ≡ not_null (latest name ms None)
+raw_data name ms = ap not_null (get_data name ms)
+
+-- the value of a field, which is no range
+pub given_data : (name : List ℕ) (ms : List Member)
+    → first_given name (members_data ms) ≡ not_null (latest name ms None)
+given_data name ms = ap (option_and_then first_of) (raw_data name ms) ∙ latest_plain name ms None refl
 
 -- the bytes of an object that names a section, has no other members, and whose fields have these bits
 pub made : (at : ℕ) (next : Option Section) (d : Data) (s : Section) (bs : List Bool) → section_in d ≡ Ok s
@@ -84,7 +90,7 @@ module _ (at : ℕ) (next : Option Section) (place : Place) (v : VlanValue) (fit
 
   pub vlan_back : header_bytes at next vlan_data ≡ Ok (vlan_bytes v)
   vlan_back =
-      made at next vlan_data sections.Vlan _ (ap section_given (given_data (codes "header") vlan))
+      made at next vlan_data sections.Vlan _ (ap section_given (raw_data (codes "header") vlan))
       (data_known (names sections.Vlan) vlan refl) (vlan_fields (lengths_of vlan_data))
       ∙ ap Ok vlan_packed
 
@@ -102,7 +108,8 @@ module _ (at : ℕ) (next : Option Section) (place : Place) (e : Ethernet2Value)
   address_given n = colon_given 48 (spelled 6 n) (IsBytes-spelled 6 n) (omega (arith, length-spelled 6 n))
 
   eth_fields : (l : Lengths) → fields_meaning at l next eth_data (section_rows sections.Eth)
-      ≡ Ok (bits_of (spelled 6 e.destination) ++ (bits_of (spelled 6 e.source) ++ (bits 16 e.ether_type ++ ([] ++ []))))
+      ≡ Ok (bits_of (spelled 6 e.destination) ++ (bits_of (spelled 6 e.source) ++ (bits 16 e.ether_type ++ ([]
+      ++ []))))
   eth_fields l =
       places_skipped at l next eth_data ethernet2_rows
       ∙ fields_are at l next eth_data ethernet2_rows
@@ -134,11 +141,12 @@ module _ (at : ℕ) (next : Option Section) (place : Place) (e : Ethernet2Value)
       ∙ sym (bits-join 48 64 e.destination (e.source * 2 ^ 16 + t) low) ∙ ap (bits 112) sum in
       ap₂ (λ a b. packed (a ++ b)) (bits_of-spelled 6 e.destination)
       (ap₂ (λ (a b : List Bool). a ++ b) (bits_of-spelled 6 e.source) (append-nil (bits 16 t)))
-      ∙ ap packed (joined ∙ sym (append-nil (bits 112 (ethernet2_number e)))) ∙ number_packed 14 (ethernet2_number e) []
+      ∙ ap packed (joined ∙ sym (append-nil (bits 112 (ethernet2_number e))))
+      ∙ number_packed 14 (ethernet2_number e) []
       ∙ append-nil (ethernet2_bytes e)
 
   pub eth_back : header_bytes at next eth_data ≡ Ok (ethernet2_bytes e)
   eth_back =
-      made at next eth_data sections.Eth _ (ap section_given (given_data (codes "header") eth))
+      made at next eth_data sections.Eth _ (ap section_given (raw_data (codes "header") eth))
       (data_known (names sections.Eth) eth refl) (eth_fields (lengths_of eth_data))
       ∙ ap Ok eth_packed

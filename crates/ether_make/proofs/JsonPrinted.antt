@@ -72,7 +72,8 @@ escape_printed b h =
 
 module _ (P : List ℕ → Type 0) (constant : (xs : List ℕ) → are_ascii xs ≡ true → P xs)
     (escape : (b : ℕ) → b < 32 → P (codes "\\u00" ++ hex_byte false b)) (utf8 : Bool) (b : ℕ) where
-  above : (t : Bool) → t ≡ (nat_lt 127 b && not utf8) → (t ≡ false → P (b ∷ [])) → P (cond t (codes "\\ufffd") (b ∷ []))
+  above : (t : Bool) → t ≡ (nat_lt 127 b && not utf8) → (t ≡ false → P (b ∷ []))
+      → P (cond t (codes "\\ufffd") (b ∷ []))
   above true e h = constant (codes "\\ufffd") refl
   above false e h = h refl
 

@@ -140,7 +140,8 @@ above false b l q s = Passes-byte b l q s
 pub Passes-json_byte : (utf8 : Bool) (b : ℕ) → Passes (json_byte utf8 b) (byte_shown utf8 b)
 Passes-json_byte utf8 b = go (cases_eq b 34) (cases_eq b 92) (cases_lt b 32)
   where
-    go : (b ≡ 34) ⊎ (b ≢ 34) → (b ≡ 92) ⊎ (b ≢ 92) → (b < 32) ⊎ (32 ≤ b) → Passes (json_byte utf8 b) (byte_shown utf8 b)
+    go : (b ≡ 34) ⊎ (b ≢ 34) → (b ≡ 92) ⊎ (b ≢ 92) → (b < 32) ⊎ (32 ≤ b)
+        → Passes (json_byte utf8 b) (byte_shown utf8 b)
     go (inl e) s c = subst (λ x. Passes (json_byte utf8 x) (byte_shown utf8 x)) (sym e) Passes-quote
     go (inr q) (inl e) c = subst (λ x. Passes (json_byte utf8 x) (byte_shown utf8 x)) (sym e) Passes-backslash
     go (inr q) (inr s) (inl c) =

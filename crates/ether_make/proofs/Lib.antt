@@ -29,6 +29,11 @@ pub mod ContentFits
 pub mod PacketLines
 pub mod DataLemmas
 pub mod BitBytes
+pub mod BitPlaces
+pub mod RangeLemmas
+pub mod TemplateLemmas
+pub mod PaceLemmas
+pub mod SeriesLemmas
 pub mod TextsBack
 pub mod FieldsBack
 pub mod HeadersBack

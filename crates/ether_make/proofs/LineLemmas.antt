@@ -4,11 +4,11 @@ use Rattle.std.proofs.lemmas.Bool.{ltb-false}
 use Rattle.std.proofs.lemmas.List.Splits.{slice_split_none, slice_split_at}
 use Rattle.serde_json.specs.Data.{Data}
 use Rattle.ether_pcap.specs.Record.{max_captured_len}
-use Rattle.ether_make.specs.declared.frame.Frame.{Frame}
+use Rattle.ether_make.specs.declared.template.Template.{Template}
 use Rattle.ether_pcap.specs.Writing.{zeros}
-use Rattle.ether_make.specs.Frames.{FrameValue, frame_meaning, padded}
-use Rattle.ether_make.specs.FrameViews.{frame_view}
-use Rattle.ether_make.specs.Lines.{LineRefusal, TooLong, LineMeans, IsJson, lines_in, linked, longest, one_link, sized}
+use Rattle.ether_make.specs.Frames.{FrameValue, padded}
+use Rattle.ether_make.specs.Templates.{TemplateValue, template_meaning}
+use Rattle.ether_make.specs.Lines.{LineRefusal, TooLong, LineMeans, IsJson, lines_in, longest, one_link, sized}
 use Rattle.ether_make.specs.Lines as meant
 use Rattle.ether_make.specs.LineViews.{TellsLine, LineOf, IsNotJson, IfTold, fault_view}
 use Rattle.ether_make.specs.Refusals.{Meaning}
@@ -16,16 +16,16 @@ use Rattle.ether_make.specs.declared.lines.LineFault.{LineFault}
 use Rattle.ether_make.specs.declared.lines.LineFault.TheVariants as faults
 
 told_object : (link : Option ℕ) (text : List ℕ) (d : Data) → IsJson text d → (told : Option LineRefusal)
-    → IfTold (λ r. one_link link (sized (frame_meaning d)) ≡ Err r) told
+    → IfTold (λ r. one_link link (sized (template_meaning d)) ≡ Err r) told
     → IfTold (λ r. LineMeans link text (Err r)) told
 told_object link text d json None h = tt
-told_object link text d json (Some r) h = subst (λ (m : Result FrameValue LineRefusal). LineMeans link text m) h
+told_object link text d json (Some r) h = subst (λ (m : Result TemplateValue LineRefusal). LineMeans link text m) h
     (meant.object d json)
 
-pub line-object : (link : Option ℕ) (text : List ℕ) (d : Data) → IsJson text d → (r : Result Frame LineFault)
-    → TellsLine (one_link link (sized (frame_meaning d))) r → LineOf link text r
-line-object link text d json (Ok frame) h =
-    subst (λ (m : Result FrameValue LineRefusal). LineMeans link text m) h (meant.object d json)
+pub line-object : (link : Option ℕ) (text : List ℕ) (d : Data) → IsJson text d → (r : Result Template LineFault)
+    → TellsLine (one_link link (sized (template_meaning d))) r → LineOf link text r
+line-object link text d json (Ok t) h =
+    subst (λ (m : Result TemplateValue LineRefusal). LineMeans link text m) h (meant.object d json)
 line-object link text d json (Err fault) h = told_object link text d json (fault_view fault) h
 
 pub line-not_json : (link : Option ℕ) (text : List ℕ) (fault : LineFault) → IsNotJson text fault
@@ -37,31 +37,31 @@ line-not_json link text faults.Memory h = tt
 
 -- ---- lengths
 
-abbrev pub FitsIfOk : Result FrameValue LineRefusal → Type 0
-FitsIfOk (Ok frame) = length frame.packet ≤ max_captured_len
+abbrev pub FitsIfOk : Result TemplateValue LineRefusal → Type 0
+FitsIfOk (Ok t) = length t.frame.packet ≤ max_captured_len
 FitsIfOk (Err r) = Unit {0}
 
-sized-at : (frame : FrameValue) (b : Bool) → nat_lt longest (length frame.packet) ≡ b
-    → FitsIfOk (if b then Err TooLong else Ok frame)
-sized-at frame true e = tt
-sized-at frame false e = ltb-false longest (length frame.packet) e
+sized-at : (t : TemplateValue) (b : Bool) → nat_lt longest (length t.frame.packet) ≡ b
+    → FitsIfOk (if b then Err TooLong else Ok t)
+sized-at t true e = tt
+sized-at t false e = ltb-false longest (length t.frame.packet) e
 
-sized-fits : (m : Meaning FrameValue) → FitsIfOk (sized m)
-sized-fits (Ok frame) = sized-at frame (nat_lt longest (length frame.packet)) refl
+sized-fits : (m : Meaning TemplateValue) → FitsIfOk (sized m)
+sized-fits (Ok t) = sized-at t (nat_lt longest (length t.frame.packet)) refl
 sized-fits (Err r) = tt
 
-if-fits : (frame : FrameValue) (r : LineRefusal) (b : Bool) → FitsIfOk (Ok frame)
-    → FitsIfOk (if b then Ok frame else Err r)
-if-fits frame r true h = h
-if-fits frame r false h = tt
+if-fits : (t : TemplateValue) (r : LineRefusal) (b : Bool) → FitsIfOk (Ok t) → FitsIfOk (if b then Ok t else Err r)
+if-fits t r true h = h
+if-fits t r false h = tt
 
-linked-fits : (link : Option ℕ) (m : Result FrameValue LineRefusal) → FitsIfOk m → FitsIfOk (one_link link m)
+linked-fits : (link : Option ℕ) (m : Result TemplateValue LineRefusal) → FitsIfOk m → FitsIfOk (one_link link m)
 linked-fits None m h = h
 linked-fits (Some link) (Err r) h = tt
-linked-fits (Some link) (Ok frame) h = if-fits frame _ (nat_eq frame.link link) h
+linked-fits (Some link) (Ok t) h = if-fits t _ (nat_eq t.frame.link link) h
 
-fits : (link : Option ℕ) (text : List ℕ) (m : Result FrameValue LineRefusal) → LineMeans link text m → FitsIfOk m
-fits link text m (meant.object d json) = linked-fits link (sized (frame_meaning d)) (sized-fits (frame_meaning d))
+fits : (link : Option ℕ) (text : List ℕ) (m : Result TemplateValue LineRefusal) → LineMeans link text m → FitsIfOk m
+fits link text m (meant.object d json) =
+    linked-fits link (sized (template_meaning d)) (sized-fits (template_meaning d))
 fits link text m (meant.not_json h) = tt
 
 length-zeros : (n : ℕ) → length (zeros n) ≡ n
@@ -80,16 +80,10 @@ padded_if-fits frame true h =
       h,
     )
 
-padded_if-linked : (frame : FrameValue) (b : Bool)
-    → linked None (if b then record frame { packet = frame.packet ++ zeros (60 - length frame.packet) } else frame)
-    ≡ Some frame.link
-padded_if-linked frame true = refl
-padded_if-linked frame false = refl
-
 -- a frame of a line is no longer than a packet of a capture
-pub line-fits : (link : Option ℕ) (text : List ℕ) (frame : FrameValue) → LineMeans link text (Ok frame)
-    → length frame.packet ≤ max_captured_len
-line-fits link text frame h = fits link text (Ok frame) h
+pub line-fits : (link : Option ℕ) (text : List ℕ) (t : TemplateValue) → LineMeans link text (Ok t)
+    → length t.frame.packet ≤ max_captured_len
+line-fits link text t h = fits link text (Ok t) h
 
 -- .. nor is it with padding
 pub padded-fits : (pad : Bool) (frame : FrameValue) → length frame.packet ≤ max_captured_len
@@ -97,17 +91,11 @@ pub padded-fits : (pad : Bool) (frame : FrameValue) → length frame.packet ≤ 
 padded-fits false frame h = h
 padded-fits true frame h = padded_if-fits frame (nat_eq frame.link 1) h
 
--- padding leaves the link type
-pub padded-linked : (pad : Bool) (link : Option ℕ) (frame : FrameValue)
-    → linked link (padded pad frame) ≡ linked link frame
-padded-linked pad (Some link) frame = refl
-padded-linked false None frame = refl
-padded-linked true None frame = padded_if-linked frame (nat_eq frame.link 1)
-
 -- ---- lines of a text
 
 -- the first line, without the line feed at its end
-pub lines-ended : (line later : List ℕ) → All (λ c. c ≢ 10) line → lines_in (line ++ 10 ∷ later) ≡ line ∷ lines_in later
+pub lines-ended : (line later : List ℕ) → All (λ c. c ≢ 10) line → lines_in (line
+    ++ 10 ∷ later) ≡ line ∷ lines_in later
 lines-ended line later h = slice_split_at (λ c. c == 10) line 10 later (λ k d l. ne_eqb _ 10 (h k d l)) refl
 
 -- the last line

@@ -75,7 +75,8 @@ module _ (words : List Text) (kind : ErrorKind) (e : Error) (fails : HasKind (fa
           subst (NamesRequest words) (sym it)
           (version words (subst (λ k. IsAmong k (fault_of make_app words)) (sym is ∙ kind_is) among))
 
-  pub kind_refused : (r : Result Request RequestError) → IfErr r (RefusesKind words kind) → IfErr r (RefusesWords words)
+  pub kind_refused : (r : Result Request RequestError) → IfErr r (RefusesKind words kind)
+      → IfErr r (RefusesWords words)
   kind_refused (Ok request) means = tt
   kind_refused (Err reasons.Memory) means = no_memory
   kind_refused (Err (reasons.Usage usage)) ((no_help, no_version, has_memory), means) =

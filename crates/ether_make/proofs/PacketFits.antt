@@ -159,7 +159,8 @@ address_fits : (t : Bool) (bytes : List ℕ) → IsBytes bytes → FitsValue (co
 address_fits true bytes h = each_byte bytes h
 address_fits false bytes h = each_byte bytes h
 
-header_fits : (h : Header) (fcs : Option (List ℕ)) → FitsHeader h → IfSome fcs IsBytes → FitValues (header_values h fcs)
+header_fits : (h : Header) (fcs : Option (List ℕ)) → FitsHeader h → IfSome fcs IsBytes
+    → FitValues (header_values h fcs)
 header_fits (headers.Ethernet2 e) fcs h k = ethernet2_fits e fcs h.ether_type k
 header_fits (headers.Ethernet2Fcs e) fcs h k = ethernet2_fits e fcs h.ether_type k
 header_fits (headers.LinuxSll s) fcs h k = (

@@ -19,14 +19,14 @@ use Rattle.ether_format.specs.Told.{Walked, told_members}
 use Rattle.ether_make.specs.Bits.{bits, bits_of, packed}
 use Rattle.ether_make.specs.FieldBits.{field_bits}
 use Rattle.ether_make.specs.Headers.{announced, fields_meaning, flag, header_bytes, names, section_given}
-use Rattle.ether_make.specs.Objects.{given, not_null}
+use Rattle.ether_make.specs.Objects.{first_given, not_null}
 use Rattle.ether_make.specs.PacketData.{value_data, members_data}
 use Rattle.ether_make.specs.Sizes.{is_zero_of, lengths_of}
 use Rattle.ether_make.specs.declared.sizes.Lengths.{Lengths}
 use Rattle.ether_make.proofs.BitBytes.{bits-join, number_packed, bytes_packed}
 use Rattle.ether_make.proofs.DataLemmas.{data_known}
 use Rattle.ether_make.proofs.FieldsBack.{number_given, colon_given, places_skipped, fields_are}
-use Rattle.ether_make.proofs.HeadersBack.{given_data, made}
+use Rattle.ether_make.proofs.HeadersBack.{given_data, made, raw_data}
 
 -- ---- the fields that a tag may have
 
@@ -127,7 +127,7 @@ module _ (at : ℕ) (next : Option Section) (place : Place) (t : SecTagValue) (f
       let f = fits.front in
       places_skipped at l next tag_data macsec_rows
       ∙ fields_are at l next tag_data macsec_rows
-      ((given (codes "payload") tag_data, []) ∷ (None, bits 1 0) ∷ (
+      ((first_given (codes "payload") tag_data, []) ∷ (None, bits 1 0) ∷ (
         Some (number
             (unsigned t.end_station)),
         bits 1 t.end_station,
@@ -244,7 +244,7 @@ module _ (at : ℕ) (next : Option Section) (place : Place) (t : SecTagValue) (f
 
   pub tag_back : header_bytes at next tag_data ≡ Ok (sec_tag_bytes t)
   tag_back =
-      made at next tag_data sections.Macsec _ (ap section_given (given_data (codes "header") tag))
+      made at next tag_data sections.Macsec _ (ap section_given (raw_data (codes "header") tag))
       (data_known (names sections.Macsec) tag refl) tag_fields
       ∙ ap Ok (ap packed (sym (nine_parts (bits 1 0) (bits 1 t.end_station) (bits 1 (flag l.sizes.has_sci))
       (bits 1 t.single_copy_broadcast) (bits 1 (encrypted_of t.payload_type)) (bits 1 (changed_of t.payload_type))

@@ -40,7 +40,8 @@ module _ (at : ℕ) (list : List ℕ) (ok : IsBytes list) where
       (one_made w h x kinds.0 s.0, all_made (after x h) (payload w h) hs e kinds.1 s.1)
 
   -- without a SecTag a header has the bytes at its start
-  one_bytes : (w : Window) (h : Header) (x : Expectation) → is_sec_tag (told_in at list w h) ≡ false → IsUnit list x w h
+  one_bytes : (w : Window) (h : Header) (x : Expectation) → is_sec_tag (told_in at list w h) ≡ false
+      → IsUnit list x w h
       → slice_range (within list w) 0 (header_len h) ≡ headers.header_bytes h
   one_bytes w (headers.Ethernet2 e) x plain u =
       written w.bound (within list w) (headers.Ethernet2 e) (IsBytes-part w.start w.finish list ok) u.accepted u.means
@@ -73,7 +74,8 @@ module _ (at : ℕ) (list : List ℕ) (ok : IsBytes list) where
 
   pub remade : (x : Expectation) (w : Window) (hs : List Header) (e : Ending) → IsIn list w
       → list_any is_sec_tag (told_stack at list w hs) ≡ false → Stack list x w hs e → Remade w hs e
-  remade x w [] (Accepted v y) inside plain s = same_window w v (Accepted v y) inside (ap (λ (u : Window). u.start) s.0)
+  remade x w [] (Accepted v y) inside plain s = same_window w v (Accepted v y) inside
+      (ap (λ (u : Window). u.start) s.0)
   remade x w [] (endings.Fault v y r) inside plain s =
       same_window w v (endings.Fault v y r) inside (ap (λ (u : Window). u.start) s.0)
   remade x w (h ∷ hs) e inside plain s =

@@ -134,5 +134,6 @@ module _ (at : ℕ) (list : List ℕ) (ok : IsBytes list) (few : at ≤ 20) (len
       (tt, rw s.0 (omega (arith, inside.ordered, inside.inside), cause_fits w.bound (within list w) s.2 r short s.4))
   stack_fits x w (h ∷ hs) e inside next s =
       let fits = means_fits (within list w) h (IsBytes-part w.start w.finish list ok) s.0.means in
-      let more = stack_fits (after x h) (payload w h) hs e (payload_in list x w h inside s.0) (after_fits h fits) s.1 in
+      let more = stack_fits (after x h) (payload w h) hs e (payload_in list x w h inside s.0) (after_fits h fits)
+      s.1 in
       ((told_fits x w h inside s.0 fits, more.0), more.1)

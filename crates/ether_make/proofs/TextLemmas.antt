@@ -54,13 +54,15 @@ no_digits t done at h colon pair =
     let e2 = next t (at + 2) (at + 3) (omega arith) (omega arith) in
     rw (e0, e1, e2, colon, pair) refl
 
-one_left : (t done : List ℕ) (at : ℕ) → at + 1 ≡ length t → option_map (λ m. done ++ m) (pairs_after (drop at t)) ≡ None
+one_left : (t done : List ℕ) (at : ℕ) → at + 1 ≡ length t → option_map (λ m. done
+    ++ m) (pairs_after (drop at t)) ≡ None
 one_left t done at h =
     let e0 = next t at (at + 1) (omega arith) (omega arith) in
     let e1 = drop_all (at + 1) t (omega arith) in
     rw (e0, e1) refl
 
-two_left : (t done : List ℕ) (at : ℕ) → at + 2 ≡ length t → option_map (λ m. done ++ m) (pairs_after (drop at t)) ≡ None
+two_left : (t done : List ℕ) (at : ℕ) → at + 2 ≡ length t → option_map (λ m. done
+    ++ m) (pairs_after (drop at t)) ≡ None
 two_left t done at h =
     let e0 = next t at (at + 1) (omega arith) (omega arith) in
     let e1 = next t (at + 1) (at + 2) (omega arith) (omega arith) in

@@ -1,5 +1,5 @@
 -- What some objects mean, with the bytes counted by hand from the standards.
-use Rattle.std.proofs.Common.{◌≡◌, ℕ, List, [], ◌∷◌, Some, None, Ok, Err, codes, refl}
+use Rattle.std.proofs.Common.{◌≡◌, ℕ, [], ◌∷◌, Some, None, Ok, Err, codes, refl}
 use Rattle.serde_json.specs.Data.{Data, number, unsigned, string, array, object, item, no_items, member, no_members}
 use Rattle.ether_make.specs.declared.refusal.Reason.TheVariants.{TooBig}
 use Rattle.ether_make.specs.Bits.{bits}
@@ -37,7 +37,8 @@ a_frame = refl
 abbrev pub sectag : Data
 sectag =
     object (member (codes "an") (number (unsigned 2)) (member (codes "header") (string (codes "macsec"))
-    (member (codes "pn") (number (unsigned 0xB2C28465)) (member (codes "sci") (string (codes "12:15:35:24:c0:89:5e:81"))
+    (member (codes "pn") (number (unsigned 0xB2C28465)) (member (codes "sci")
+    (string (codes "12:15:35:24:c0:89:5e:81"))
     (member (codes "sl") (number (unsigned 42)) (member (codes "type") (number (unsigned 2048)) no_members))))))
 
 pub a_sectag : header_bytes 1 None sectag

@@ -1,5 +1,5 @@
 -- Numbers and bytes as bits, and bits as bytes: the first bit of a byte is its most significant one, as on the wire.
-use Rattle.std.specs.Prelude.{ℕ, zero, suc, ◌+◌, ◌*◌, ◌/◌, ◌%◌, ◌^◌, List, [], ◌∷◌, Bool, nat_eq}
+use Rattle.std.specs.Prelude.{ℕ, zero, suc, ◌+◌, ◌*◌, ◌/◌, ◌%◌, ◌^◌, List, [], ◌∷◌, ◌++◌, take, drop, Bool, nat_eq}
 use Rattle.std.specs.List.{flat_map}
 use Rattle.ether_base.specs.Bytes.{bit}
 
@@ -20,3 +20,7 @@ byte_of a b c d e f g h =
 abbrev pub packed : List Bool → List ℕ
 packed (a ∷ b ∷ c ∷ d ∷ e ∷ f ∷ g ∷ h ∷ rest) = byte_of a b c d e f g h ∷ packed rest
 packed _ = []
+
+-- bits in which the last `len` bits of a number replace as many, from a place on
+abbrev pub with_bits : (at len n : ℕ) → List Bool → List Bool
+with_bits at len n bs = take at bs ++ (bits len n ++ drop (at + len) bs)

@@ -69,13 +69,13 @@ pub record WritesPart (IsPart : List ℕ → Type 0) (held holds : Option (List 
   pub is_part : IsPart part
   pub written : Appends held holds part
 
--- a writer takes one frame more, after those for which `IsBegun` holds
-pub record Grows (IsBegun : Option ℕ → List FrameValue → List ℕ → Type 0) (link after : Option ℕ) (frame : FrameValue)
-    (held holds : Option (List ℕ)) : Type 0 where
+-- a writer takes more frames, after those for which `IsBegun` holds
+pub record Grows (IsBegun : Option ℕ → List FrameValue → List ℕ → Type 0) (link after : Option ℕ)
+    (frames : List FrameValue) (held holds : Option (List ℕ)) : Type 0 where
   pub more : List ℕ
   pub written : Appends held holds more
-  pub begun : (frames : List FrameValue) (bytes : List ℕ) → IsBegun link frames bytes
-      → IsBegun after (frames ++ frame ∷ []) (bytes ++ more)
+  pub begun : (done : List FrameValue) (bytes : List ℕ) → IsBegun link done bytes
+      → IsBegun after (done ++ frames) (bytes ++ more)
 
 -- a writer takes what is missing at the end
 pub record Ends (IsBegun : Option ℕ → List FrameValue → List ℕ → Type 0) (IsWhole : List FrameValue → List ℕ → Type 0)

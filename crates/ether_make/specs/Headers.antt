@@ -14,7 +14,7 @@ use Rattle.ether_make.specs.declared.refusal.Reason.{Reason}
 use Rattle.ether_make.specs.declared.refusal.Reason.TheVariants.{Missing, NotAText, NotAHeader, Unknown}
 use Rattle.ether_make.specs.Bits.{packed}
 use Rattle.ether_make.specs.FieldBits.{field_bits}
-use Rattle.ether_make.specs.Objects.{given, unknown_member}
+use Rattle.ether_make.specs.Objects.{first_given, given, unknown_member}
 use Rattle.ether_make.specs.Refusals.{Meaning, refused, joined, result_map}
 use Rattle.ether_make.specs.Sizes.{lengths_of}
 use Rattle.ether_make.specs.declared.sizes.Lengths.{Lengths}
@@ -99,8 +99,8 @@ told header member (Err reason) = Err (refused header member reason)
 abbrev pub field_meaning : (at : ℕ) → Lengths → (next : Option Section) → Data → Row → Meaning (List Bool)
 field_meaning at lengths next d r =
     told (Some at) r.name
-    (field_bits r.kind r.extent (bits_of (Header lengths.sizes) r.extent) (part lengths r.number) (given r.name d)
-    (rule lengths next r.number))
+    (field_bits r.kind r.extent (bits_of (Header lengths.sizes) r.extent) (part lengths r.number)
+    (first_given r.name d) (rule lengths next r.number))
 
 -- the bits of fields, one field after the other, in the order of the rows
 abbrev pub fields_meaning : (at : ℕ) → Lengths → (next : Option Section) → Data → List Row → Meaning (List Bool)

@@ -1,12 +1,12 @@
 -- What is returned for a line as its meaning.
 use Rattle.std.specs.Prelude.{◌≡◌, ℕ, List, Ok, Err, Result, Option, Some, None, IsUtf8, string_bytes}
 use Rattle.serde_json.specs.Read.{read}
-use Rattle.ether_make.specs.Frames.{FrameValue}
-use Rattle.ether_make.specs.FrameViews.{frame_view}
+use Rattle.ether_make.specs.FrameViews.{template_view}
+use Rattle.ether_make.specs.Templates.{TemplateValue}
 use Rattle.ether_make.specs.Lines.{LineRefusal, LineMeans}
 use Rattle.ether_make.specs.Lines as lines
 use Rattle.ether_make.specs.Refusals.{RefusalValue, refused}
-use Rattle.ether_make.specs.declared.frame.Frame.{Frame}
+use Rattle.ether_make.specs.declared.template.Template.{Template}
 use Rattle.ether_make.specs.declared.lines.LineFault.{LineFault}
 use Rattle.ether_make.specs.declared.lines.LineFault.TheVariants.{NotJson, Refused, TooLong, Memory}
 
@@ -31,11 +31,11 @@ abbrev pub IsOwned : RefusalValue → LineFault → Type 0
 IsOwned r fault = IfTold (λ told. told ≡ lines.Object r) (fault_view fault)
 
 -- what is returned for a meaning
-abbrev pub TellsLine : Result FrameValue LineRefusal → Result Frame LineFault → Type 0
-TellsLine meaning (Ok frame) = meaning ≡ Ok (frame_view frame)
+abbrev pub TellsLine : Result TemplateValue LineRefusal → Result Template LineFault → Type 0
+TellsLine meaning (Ok t) = meaning ≡ Ok (template_view t)
 TellsLine meaning (Err fault) = IfTold (λ told. meaning ≡ Err told) (fault_view fault)
 
 -- what is returned for a line
-abbrev pub LineOf : (link : Option ℕ) → (text : List ℕ) → Result Frame LineFault → Type 0
-LineOf link text (Ok frame) = LineMeans link text (Ok (frame_view frame))
+abbrev pub LineOf : (link : Option ℕ) → (text : List ℕ) → Result Template LineFault → Type 0
+LineOf link text (Ok t) = LineMeans link text (Ok (template_view t))
 LineOf link text (Err fault) = IfTold (λ told. LineMeans link text (Err told)) (fault_view fault)

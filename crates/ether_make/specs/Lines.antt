@@ -1,10 +1,14 @@
 -- The frames that lines of text mean.
-use Rattle.std.specs.Prelude.{◌≡◌, ◌==◌, ℕ, ◌+◌, ◌<◌, List, [], ◌∷◌, length, codes, Option, Some, None, Result, Ok, Err, nat_eq, nat_lt, IsUtf8, if◌then◌else◌}
+use Rattle.std.specs.Prelude.{◌≡◌, ◌==◌, ℕ, ◌+◌, ◌-◌, ◌<◌, ◌^◌, ◌&&◌, List, [], ◌∷◌, ◌++◌, length, codes, Bool, true, false, Option, Some, None, unwrap_or, Result, Ok, Err, nat_eq, nat_lt, IsUtf8, if◌then◌else◌}
 use Rattle.std.specs.List.{slice_split}
 use Rattle.serde_json.specs.Data.{Data}
 use Rattle.serde_json.specs.Read.{read}
-use Rattle.ether_make.specs.declared.refusal.Reason.TheVariants.{OtherFrames}
-use Rattle.ether_make.specs.Frames.{FrameValue, frame_meaning}
+use Rattle.ether_make.specs.declared.refusal.Reason.TheVariants.{OtherFrames, OtherTime}
+use Rattle.ether_make.specs.declared.progress.Pace.{Pace}
+use Rattle.ether_make.specs.declared.settings.Settings.{Settings}
+use Rattle.ether_make.specs.declared.time_text.Time.{Time}
+use Rattle.ether_make.specs.Frames.{FrameValue, padded}
+use Rattle.ether_make.specs.Templates.{TemplateValue, after_frames, frames_from, in_capture, later, template_meaning}
 use Rattle.ether_make.specs.Refusals.{Meaning, RefusalValue}
 use Rattle.ether_make.specs.Refusals.{refused as refusal}
 
@@ -24,45 +28,110 @@ pub record IsJson (text : List ℕ) (d : Data) : Type 0 where
 abbrev pub longest : ℕ
 longest = 262144
 
--- the frame of an object, if it is no longer
-abbrev pub sized : Meaning FrameValue → Result FrameValue LineRefusal
-sized (Ok frame) = if nat_lt longest (length frame.packet) then Err TooLong else Ok frame
+-- the frames of an object, if they are no longer
+abbrev pub sized : Meaning TemplateValue → Result TemplateValue LineRefusal
+sized (Ok t) = if nat_lt longest (length t.frame.packet) then Err TooLong else Ok t
 sized (Err r) = Err (Object r)
 
--- .. and if it has the link type of the frames before, if there are any: a capture has one
-abbrev pub one_link : (link : Option ℕ) → Result FrameValue LineRefusal → Result FrameValue LineRefusal
+-- .. and if they have the link type of the frames before, if there are any: a capture has one
+abbrev pub one_link : (link : Option ℕ) → Result TemplateValue LineRefusal → Result TemplateValue LineRefusal
 one_link None meaning = meaning
 one_link (Some link) (Err r) = Err r
-one_link (Some link) (Ok frame) =
-    if nat_eq frame.link link then Ok frame else Err (Object (refusal None (codes "link") OtherFrames))
+one_link (Some link) (Ok t) =
+    if nat_eq t.frame.link link then Ok t else Err (Object (refusal None (codes "link") OtherFrames))
 
 -- what a line means after frames with this link type
-pub data LineMeans (link : Option ℕ) (text : List ℕ) : Result FrameValue LineRefusal → Type 0 where
-  object : (d : Data) → IsJson text d → LineMeans link text (one_link link (sized (frame_meaning d)))
+pub data LineMeans (link : Option ℕ) (text : List ℕ) : Result TemplateValue LineRefusal → Type 0 where
+  object : (d : Data) → IsJson text d → LineMeans link text (one_link link (sized (template_meaning d)))
   not_json : (IsUtf8 text → read text ≡ None) → LineMeans link text (Err NotJson)
 
 -- the lines of a text: a line feed (10) is between two
 abbrev pub lines_in : List ℕ → List (List ℕ)
 lines_in text = slice_split (λ c. c == 10) text
 
+-- ---- one line after another
+
+-- what frames leave to the next line: their link type, with a rate what times depend on, and the state of the generator
+pub record Progress : Type 0 where
+  pub link : Option ℕ
+  pub pace : Option Pace
+  pub state : ℕ
+
+abbrev pub beginning : (seed : ℕ) → Progress
+beginning seed = record { link = None; pace = None; state = seed }
+
 -- the link type of frames and one more
 abbrev pub linked : (link : Option ℕ) → FrameValue → Option ℕ
 linked None frame = Some frame.link
 linked (Some link) frame = Some link
 
--- Lines, the first with this number, mean these frames after frames with this link type, to the end or to a line that
--- is refused. An empty line means nothing.
-pub data LinesMean
-    : (number : ℕ) → (link : Option ℕ) → (lines : List (List ℕ)) → (frames : List FrameValue)
+abbrev pub all_linked : (link : Option ℕ) → List FrameValue → Option ℕ
+all_linked link [] = link
+all_linked link (f ∷ fs) = all_linked (linked link f) fs
+
+-- the time of a frame of a line: that of its object, or at a rate
+abbrev pub time_at : (rate : Option ℕ) → Option Pace → Time → (index : ℕ) → Time
+time_at None pace t index = t
+time_at (Some rate) None t index = later t index rate
+time_at (Some rate) (Some p) t index = later p.start (p.sent + index) rate
+
+abbrev pub paced : (rate : Option ℕ) → (count : ℕ) → Time → Option Pace → Option Pace
+paced None count t pace = pace
+paced (Some rate) count t None = Some (record { start = t; sent = count })
+paced (Some rate) count t (Some p) = Some (record p { sent = p.sent + count })
+
+abbrev pub sent_before : Option Pace → ℕ
+sent_before None = 0
+sent_before (Some p) = p.sent
+
+-- as many frames as are asked for, or one for each combination
+abbrev pub frame_count : Settings → TemplateValue → ℕ
+frame_count settings t = unwrap_or settings.count t.found.combinations
+
+-- whether a capture can have the time of the last frame, and 64 bits the number of frames
+abbrev pub is_timely_at : (rate : Option ℕ) → Option Pace → Time → (count : ℕ) → Bool
+is_timely_at None pace t count = true
+is_timely_at (Some rate) pace t count =
+    nat_lt (sent_before pace + count) (2 ^ 64) && in_capture (time_at (Some rate) pace t (count - 1))
+
+abbrev pub is_timely : Settings → Progress → TemplateValue → Bool
+is_timely settings progress t = is_timely_at settings.rate progress.pace t.frame.time (frame_count settings t)
+
+-- the frames of a line, padded if that is asked for
+abbrev pub frames_of : Settings → Progress → TemplateValue → List FrameValue
+frames_of settings progress t =
+    frames_from (frame_count settings t) 0 progress.state (time_at settings.rate progress.pace t.frame.time)
+    t.found.slots t.frame.link (padded settings.pad t.frame).packet
+
+-- what they leave to the next line
+abbrev pub after : Settings → Progress → TemplateValue → Progress
+after settings progress t = record {
+  link = all_linked progress.link (frames_of settings progress t);
+  pace = paced settings.rate (frame_count settings t) t.frame.time progress.pace;
+  state = after_frames (frame_count settings t) t.found.slots progress.state;
+}
+
+-- a line that is refused: by itself, or since its frames would be too late
+pub data Refuses (settings : Settings) (progress : Progress) (text : List ℕ) : LineRefusal → Type 0 where
+  meaning : (r : LineRefusal) → LineMeans progress.link text (Err r) → Refuses settings progress text r
+  late : (t : TemplateValue) → LineMeans progress.link text (Ok t) → is_timely settings progress t ≡ false
+      → Refuses settings progress text (Object (refusal None (codes "time") OtherTime))
+
+-- Lines, the first with this number, mean these frames, to the end or to a line that is refused. An empty line means
+-- nothing.
+pub data LinesMean (settings : Settings)
+    : (number : ℕ) → Progress → (lines : List (List ℕ)) → (frames : List FrameValue)
     → Option (ℕ × LineRefusal) → Type 0 where
-  none : (number : ℕ) (link : Option ℕ) → LinesMean number link [] [] None
-  empty : (number : ℕ) (link : Option ℕ) (lines : List (List ℕ)) (frames : List FrameValue)
+  none : (number : ℕ) (progress : Progress) → LinesMean settings number progress [] [] None
+  empty : (number : ℕ) (progress : Progress) (lines : List (List ℕ)) (frames : List FrameValue)
       (stop : Option (ℕ × LineRefusal))
-      → LinesMean (number + 1) link lines frames stop → LinesMean number link ([] ∷ lines) frames stop
-  frame : (number : ℕ) (link : Option ℕ) (line : List ℕ) (frame : FrameValue) (lines : List (List ℕ))
+      → LinesMean settings (number + 1) progress lines frames stop
+      → LinesMean settings number progress ([] ∷ lines) frames stop
+  some : (number : ℕ) (progress : Progress) (line : List ℕ) (t : TemplateValue) (lines : List (List ℕ))
       (frames : List FrameValue) (stop : Option (ℕ × LineRefusal))
-      → 0 < length line → LineMeans link line (Ok frame) → LinesMean (number + 1) (linked link frame) lines frames stop
-      → LinesMean number link (line ∷ lines) (frame ∷ frames) stop
-  refused : (number : ℕ) (link : Option ℕ) (line : List ℕ) (lines : List (List ℕ)) (r : LineRefusal)
-      → 0 < length line
-      → LineMeans link line (Err r) → LinesMean number link (line ∷ lines) [] (Some (number, r))
+      → 0 < length line → LineMeans progress.link line (Ok t) → is_timely settings progress t ≡ true
+      → LinesMean settings (number + 1) (after settings progress t) lines frames stop
+      → LinesMean settings number progress (line ∷ lines) (frames_of settings progress t ++ frames) stop
+  refused : (number : ℕ) (progress : Progress) (line : List ℕ) (lines : List (List ℕ)) (r : LineRefusal)
+      → 0 < length line → Refuses settings progress line r
+      → LinesMean settings number progress (line ∷ lines) [] (Some (number, r))

@@ -3,7 +3,7 @@ use Rattle.std.specs.Prelude.{ℕ, List, codes}
 use Rattle.ether_make.specs.declared.lines.LineFault.{LineFault}
 use Rattle.ether_make.specs.declared.lines.LineFault.TheVariants.{Memory}
 use Rattle.ether_make.specs.declared.refusal.Reason.{Reason}
-use Rattle.ether_make.specs.declared.refusal.Reason.TheVariants.{Unknown, Missing, NotAnObject, NotAnArray, NotANumber, NotAText, NotBytes, NotAHeader, NotALink, TooBig, OtherLength, Absent, NotATime, OtherTime, OtherHeader, OtherFrames}
+use Rattle.ether_make.specs.declared.refusal.Reason.TheVariants.{Unknown, Missing, NotAnObject, NotAnArray, NotANumber, NotAText, NotBytes, NotAHeader, NotALink, TooBig, OtherLength, Absent, NotATime, OtherTime, OtherHeader, OtherFrames, NotARange, TooMany}
 
 -- after the member's name
 abbrev pub reason_text : Reason → List ℕ
@@ -23,6 +23,8 @@ reason_text NotATime = codes "is no date and time of day in UTC"
 reason_text OtherTime = codes "is a time before 1970 or after 7 February 2106"
 reason_text OtherHeader = codes "is not the link type of the first header"
 reason_text OtherFrames = codes "is not the link type of the frames before"
+reason_text NotARange = codes "is no range of numbers that the field has"
+reason_text TooMany = codes "has too many combinations with the ranges before it"
 
 -- the exit status after a line that means no frame
 abbrev pub fault_status : LineFault → ℕ

@@ -1,5 +1,5 @@
 -- The output of frames.
-use Rattle.std.specs.Prelude.{◌≡◌, ℕ, List, [], ◌∷◌, ◌++◌, map, nat_eq, Bool, true, false, if◌then◌else◌, Option}
+use Rattle.std.specs.Prelude.{◌≡◌, ℕ, List, [], ◌∷◌, ◌++◌, ◌&&◌, map, nat_eq, Bool, true, false, Option}
 use Rattle.std.specs.List.{flat_map}
 use Rattle.ether_base.specs.Texts.NumberText.{hex_byte}
 use Rattle.ether_make.specs.declared.settings.Form.{Form}
@@ -7,17 +7,17 @@ use Rattle.ether_make.specs.declared.settings.Form.TheVariants.{Capture, Hex}
 use Rattle.ether_make.specs.declared.settings.Settings.{Settings}
 use Rattle.ether_make.specs.Captures.{IsBegun, IsTheCapture}
 use Rattle.ether_make.specs.CheckSequences.{check_sequence}
-use Rattle.ether_make.specs.Frames.{FrameValue, padded}
+use Rattle.ether_make.specs.Frames.{FrameValue}
 
--- a frame of Ethernet with its check sequence, if that is asked for
-abbrev pub checked : (fcs : Bool) → FrameValue → FrameValue
-checked false frame = frame
-checked true frame =
-    if nat_eq frame.link 1 then record frame { packet = frame.packet ++ check_sequence frame.packet } else frame
+-- bytes with their check sequence after them, if that is asked for
+abbrev pub with_sequence : (fcs : Bool) → List ℕ → List ℕ
+with_sequence false bytes = bytes
+with_sequence true bytes = bytes ++ check_sequence bytes
 
--- a frame with padding, and after it the check sequence
+-- a frame with its check sequence, if that is asked for and the frame is one of Ethernet
 abbrev pub finished : Settings → FrameValue → FrameValue
-finished settings frame = checked settings.fcs (padded settings.pad frame)
+finished settings frame =
+    record frame { packet = with_sequence (settings.fcs && nat_eq frame.link 1) frame.packet }
 
 -- two digits for each byte, and a line feed (10)
 abbrev pub hex_line : List ℕ → List ℕ

@@ -1,5 +1,5 @@
 -- The value of a packet's line as the kit's reader has it: numbers have values, and an object has each name once.
-use Rattle.std.specs.Prelude.{ℕ, List, [], ◌∷◌, length, codes, true, false, if◌then◌else◌, Option}
+use Rattle.std.specs.Prelude.{List, [], ◌∷◌, length, codes, true, false, if◌then◌else◌, Option}
 use Rattle.std.specs.Fmt.{decimal}
 use Rattle.std.specs.Float.{binary64}
 use Rattle.std.specs.Float.Numeral.{Parts, nearest_float}

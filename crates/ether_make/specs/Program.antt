@@ -1,10 +1,11 @@
 -- What a run of the program makes of its input.
-use Rattle.std.specs.Prelude.{◌≡◌, ℕ, ◌<◌, List, [], ◌∷◌, ◌++◌, length, Bool, false, All, ◌≢◌, None, Option, Some, IfSome, Ok, Err, if◌then◌else◌}
+use Rattle.std.specs.Prelude.{◌≡◌, ℕ, ◌<◌, List, [], ◌∷◌, ◌++◌, length, map, Bool, true, false, All, ◌≢◌, None, Option, Some, IfSome, Ok, if◌then◌else◌}
 use Rattle.std.specs.Io.KnownBytes.{Appends, Consumes, IsAtEnd}
 use Rattle.std.specs.Io.{StopsAt}
 use Rattle.ether_make.specs.Captures.{Grows}
 use Rattle.ether_make.specs.Frames.{FrameValue}
-use Rattle.ether_make.specs.Lines.{LineMeans, LineRefusal, LinesMean, lines_in, linked}
+use Rattle.ether_make.specs.Lines.{LineMeans, LineRefusal, LinesMean, Progress, Refuses, after, all_linked, frames_of, is_timely, lines_in}
+use Rattle.ether_make.specs.Templates.{TemplateValue}
 use Rattle.ether_make.specs.LineViews.{IfTold, fault_view}
 use Rattle.ether_make.specs.Outputs.{IsBegunAs, IsOutputBegun, finished}
 use Rattle.ether_make.specs.declared.settings.Settings.{Settings}
@@ -14,62 +15,54 @@ use Rattle.ether_make.specs.declared.program.RunFault.TheVariants.{Input, Line, 
 
 -- ---- a run
 
--- the link type of frames, after others that have this one, if there are any
-abbrev pub linked_all : (link : Option ℕ) → List FrameValue → Option ℕ
-linked_all link [] = link
-linked_all link (frame ∷ frames) = linked link frame
-
 -- the output of these frames continues that of frames before them, whose link type this is
 pub record Continues (settings : Settings) (link after : Option ℕ) (frames : List FrameValue) (bytes : List ℕ)
     : Type 0 where
-  pub is_linked : after ≡ linked_all link frames
+  pub is_linked : after ≡ all_linked link frames
   pub begun : (earlier : List FrameValue) (front : List ℕ) → IsOutputBegun settings link earlier front
       → IsOutputBegun settings after (earlier ++ frames) (front ++ bytes)
 
--- The reader gave lines, and after them a part of a line that is not made. These lines mean frames after frames with
--- this link type, to their end or to the line that is refused, and the writer took bytes that are these frames.
-pub record Ran (link : Option ℕ) (IsWritten : List FrameValue → List ℕ → Type 0)
-    (before after held holds : Option (List ℕ))
-    (stop : Option (ℕ × LineRefusal)) (part : List ℕ) : Type 0 where
+-- The reader gave lines, and after them a part of a line that is not made. These lines mean frames after what other
+-- lines left, to their end or to the line that is refused, and the writer took bytes that are these frames.
+pub record Ran (settings : Settings) (first : Progress) (IsWritten : List FrameValue → List ℕ → Type 0)
+    (before after held holds : Option (List ℕ)) (stop : Option (ℕ × LineRefusal)) (part : List ℕ) : Type 0 where
   pub text : List ℕ
   pub frames : List FrameValue
   pub bytes : List ℕ
   pub read : Consumes before after (text ++ part)
-  pub means : LinesMean 1 link (lines_in text) frames stop
+  pub means : LinesMean settings 1 first (lines_in text) frames stop
   pub is_written : IsWritten frames bytes
   pub written : Appends held holds bytes
 
 -- the reader is at its end, and the writer took the frames of all lines
-pub record HasMade (link : Option ℕ) (IsWritten : List FrameValue → List ℕ → Type 0)
-    (before after held holds : Option (List ℕ))
-    : Type 0 where
-  pub ran : Ran link IsWritten before after held holds None []
+pub record HasMade (settings : Settings) (first : Progress) (IsWritten : List FrameValue → List ℕ → Type 0)
+    (before after held holds : Option (List ℕ)) : Type 0 where
+  pub ran : Ran settings first IsWritten before after held holds None []
   pub at_end : IfSome before (λ xs. IsAtEnd after)
 
 -- the run ended in the middle of a line, and the writer took the frames of all lines before it
-pub record HasBroken (link : Option ℕ) (IsWritten : List FrameValue → List ℕ → Type 0)
-    (before after held holds : Option (List ℕ))
-    : Type 0 where
+pub record HasBroken (settings : Settings) (first : Progress) (IsWritten : List FrameValue → List ℕ → Type 0)
+    (before after held holds : Option (List ℕ)) : Type 0 where
   pub part : List ℕ
   pub one_line : StopsAt part 10
-  pub ran : Ran link IsWritten before after held holds None part
+  pub ran : Ran settings first IsWritten before after held holds None part
 
 -- the run ended at this line, since it is refused, or since there was no memory
-abbrev pub AfterLine : (link : Option ℕ) → (IsWritten : List FrameValue → List ℕ → Type 0) →
-    (before after held holds : Option (List ℕ))
-    → (line : ℕ) → Option LineRefusal → Type 0
-AfterLine link IsWritten before after held holds line None = HasBroken link IsWritten before after held holds
-AfterLine link IsWritten before after held holds line (Some r) =
-    Ran link IsWritten before after held holds (Some (line, r)) []
+abbrev pub AfterLine : Settings → (first : Progress) → (IsWritten : List FrameValue → List ℕ → Type 0)
+    → (before after held holds : Option (List ℕ)) → (line : ℕ) → Option LineRefusal → Type 0
+AfterLine settings first IsWritten before after held holds line None =
+    HasBroken settings first IsWritten before after held holds
+AfterLine settings first IsWritten before after held holds line (Some r) =
+    Ran settings first IsWritten before after held holds (Some (line, r)) []
 
 -- what is known after a fault; of one that the writer had nothing
-abbrev pub AfterFault : (link : Option ℕ) → (IsWritten : List FrameValue → List ℕ → Type 0) →
-    (before after held holds : Option (List ℕ))
-    → RunFault → Type 0
-AfterFault link IsWritten before after held holds (Line stop) =
-    AfterLine link IsWritten before after held holds stop.line (fault_view stop.fault)
-AfterFault link IsWritten before after held holds (Input error) = HasBroken link IsWritten before after held holds
-AfterFault link IsWritten before after held holds (Output error) = Unit {0}
+abbrev pub AfterFault : Settings → (first : Progress) → (IsWritten : List FrameValue → List ℕ → Type 0)
+    → (before after held holds : Option (List ℕ)) → RunFault → Type 0
+AfterFault settings first IsWritten before after held holds (Line stop) =
+    AfterLine settings first IsWritten before after held holds stop.line (fault_view stop.fault)
+AfterFault settings first IsWritten before after held holds (Input error) =
+    HasBroken settings first IsWritten before after held holds
+AfterFault settings first IsWritten before after held holds (Output error) = Unit {0}
 
 -- ---- a line of it
 
@@ -86,25 +79,29 @@ pub record BreaksLine (before after : Option (List ℕ)) (line : List ℕ) : Typ
   pub read : Consumes before after line
   pub one_line : StopsAt line 10
 
--- a writer takes the frame of a line, or nothing of an empty one
+-- a writer takes the frames of a line, or nothing of an empty one
 pub data TakesLine (settings : Settings) (text : List ℕ) (held holds : Option (List ℕ))
-    : (link after : Option ℕ) → Type 0 where
-  empty : (link : Option ℕ) → length text ≡ 0 → Appends held holds [] → TakesLine settings text held holds link link
-  frame : (link : Option ℕ) (frame : FrameValue) → 0 < length text → LineMeans link text (Ok frame)
-      → Grows (IsBegunAs settings.form settings.fcs) link (linked link frame) (finished settings frame) held holds
-      → TakesLine settings text held holds link (linked link frame)
+    : (progress next : Progress) → Type 0 where
+  empty : (progress : Progress) → length text ≡ 0 → Appends held holds []
+      → TakesLine settings text held holds progress progress
+  some : (progress : Progress) (t : TemplateValue) → 0 < length text → LineMeans progress.link text (Ok t)
+      → is_timely settings progress t ≡ true
+      → Grows (IsBegunAs settings.form settings.fcs) progress.link (after settings progress t).link
+      (map (finished settings) (frames_of settings progress t)) held holds
+      → TakesLine settings text held holds progress (after settings progress t)
 
 -- a line is refused, or there is no memory, and nothing is written
-pub record RefusesLine (number : ℕ) (text : List ℕ) (held holds : Option (List ℕ)) (link after : Option ℕ) (stop : Stop)
-    : Type 0 where
+pub record RefusesLine (settings : Settings) (number : ℕ) (text : List ℕ) (held holds : Option (List ℕ))
+    (progress next : Progress) (stop : Stop) : Type 0 where
   pub line : stop.line ≡ number
-  pub same_link : after ≡ link
+  pub same : next ≡ progress
   pub some : 0 < length text
-  pub means : IfTold (λ r. LineMeans link text (Err r)) (fault_view stop.fault)
+  pub means : IfTold (λ r. Refuses settings progress text r) (fault_view stop.fault)
   pub unwritten : Appends held holds []
 
-abbrev pub AfterTaking : (number : ℕ) → (text : List ℕ) → (held holds : Option (List ℕ)) → (link after : Option ℕ)
-    → RunFault → Type 0
-AfterTaking number text held holds link after (Line stop) = RefusesLine number text held holds link after stop
-AfterTaking number text held holds link after (Input error) = ⊥
-AfterTaking number text held holds link after (Output error) = Unit {0}
+abbrev pub AfterTaking : Settings → (number : ℕ) → (text : List ℕ) → (held holds : Option (List ℕ))
+    → (progress next : Progress) → RunFault → Type 0
+AfterTaking settings number text held holds progress next (Line stop) =
+    RefusesLine settings number text held holds progress next stop
+AfterTaking settings number text held holds progress next (Input error) = ⊥
+AfterTaking settings number text held holds progress next (Output error) = Unit {0}

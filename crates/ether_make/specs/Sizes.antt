@@ -5,7 +5,7 @@ use Rattle.serde_json.specs.Data.{Data}
 use Rattle.serde_json.specs.Find.{as_str}
 use Rattle.ether_fields.specs.declared.part.Sizes.{Sizes}
 use Rattle.ether_make.specs.declared.sizes.Lengths.{Lengths}
-use Rattle.ether_make.specs.Objects.{given, number_of}
+use Rattle.ether_make.specs.Objects.{first_given, number_of}
 use Rattle.ether_make.specs.FieldBits.{has_dot}
 
 -- a number that fits in a byte
@@ -17,10 +17,10 @@ abbrev pub text_size : List ℕ → Option ℕ
 text_size text = if has_dot text then Some 4 else byte_size ((length text + 2) / 3)
 
 abbrev pub given_size : (name : List ℕ) → Data → Option ℕ
-given_size name d = option_and_then byte_size (option_and_then number_of (given name d))
+given_size name d = option_and_then byte_size (option_and_then number_of (first_given name d))
 
 abbrev pub address_size : (name : List ℕ) → Data → Option ℕ
-address_size name d = option_and_then text_size (option_and_then as_str (given name d))
+address_size name d = option_and_then text_size (option_and_then as_str (first_given name d))
 
 -- the size that is given, or that of the sender's address, or of the target's, or the usual one
 abbrev pub size : (count first second : List ℕ) → (usual : ℕ) → Data → ℕ
@@ -37,11 +37,13 @@ is_zero_of (Some d) = is_zero_number (number_of d)
 
 -- a flag that is missing, or 0
 abbrev pub is_zero : (name : List ℕ) → Data → Bool
-is_zero name d = is_zero_of (given name d)
+is_zero name d = is_zero_of (first_given name d)
 
 -- A SecTag has an SCI if its SC bit is set (IEEE 802.1AE, 9.5), or if that bit is missing and an SCI is given.
 abbrev pub has_sci : Data → Bool
-has_sci d = if is_some (given (codes "sc") d) then not (is_zero (codes "sc") d) else is_some (given (codes "sci") d)
+has_sci d =
+    if is_some (first_given (codes "sc") d) then not (is_zero (codes "sc") d) else is_some
+    (first_given (codes "sci") d)
 
 -- of an ARP packet the addresses (RFC 826: six bytes for Ethernet, four for IPv4); of a SecTag whether it has an SCI,
 -- and whether the ether type after it can be read (IEEE 802.1AE, 9.5: E and C are 0)
@@ -57,7 +59,8 @@ sizes_of d = record {
 -- field has eight bytes, also if the length says more.
 abbrev pub address_len : Data → ℕ
 address_len d =
-    unwrap_or (option_or (option_and_then number_of (given (codes "addr_len") d)) (address_size (codes "addr") d)) 6
+    unwrap_or
+    (option_or (option_and_then number_of (first_given (codes "addr_len") d)) (address_size (codes "addr") d)) 6
 
 abbrev pub lengths_of : Data → Lengths
 lengths_of d = record { sizes = sizes_of d; address = address_len d }

@@ -1,6 +1,6 @@
 //! Bits of numbers and bytes.
-ghost use Rattle.std.specs.Prelude.{◌≡◌, ◌++◌, ◌∷◌, ◌≤◌, ◌+◌, ◌/◌, ◌%◌, ◌^◌, OnOk, length, drop, nat_eq};
-ghost use Rattle.ether_make.specs.Bits.{bits as bits_in, bits_of, packed};
+ghost use Rattle.std.specs.Prelude.{◌≡◌, ◌<◌, ◌++◌, ◌∷◌, ◌≤◌, ◌+◌, ◌/◌, ◌%◌, ◌^◌, ◌-◌, ◌*◌, OnOk, length, drop, nat_eq};
+ghost use Rattle.ether_make.specs.Bits.{bits as bits_in, bits_of, packed, with_bits};
 
 use std::alloc::AllocError;
 
@@ -61,4 +61,33 @@ fn bit_of(value: u64, place: usize) -> bool
         return false;
     }
     (value >> place) % 2 == 1
+}
+
+/// Writes the last `len` bits of a number over those at a place of bytes.
+pub fn set_bits(bytes: &mut [u8], at: usize, len: usize, value: u64)
+    requires { (at + len ≤ 8 * length bytes.old) × (at + len < 2 ^ 64) }
+    ensures bits { bits_of bytes.new ≡ with_bits at len value (bits_of bytes.old) }
+    ensures len { length bytes.new ≡ length bytes.old }
+{
+    let mut left = len;
+    let mut more = value;
+    while left > 0 {
+        let place = (at + left - 1) / 8;
+        let end = at + left - 8 * place;
+        let count = end.min(left);
+        bytes[place] = byte_with(bytes[place], end - count, count, more);
+        more >>= count;
+        left -= count;
+    }
+}
+
+/// A byte with the last `count` bits of a number at a place of it.
+fn byte_with(byte: u8, at: usize, count: usize, value: u64) -> u8
+    requires { at + count ≤ 8 }
+    ensures { bits_in 8 result ≡ with_bits at count value (bits_in 8 byte) }
+{
+    let after = 8 - at - count;
+    let front = byte as usize >> (8 - at) << (8 - at);
+    let middle = (value as usize % (1 << count)) << after;
+    (front + middle + byte as usize % (1 << after)) as u8
 }

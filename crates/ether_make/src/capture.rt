@@ -1,5 +1,5 @@
 //! The capture of frames, written frame by frame.
-ghost use Rattle.std.specs.Prelude.{◌≡◌, ◌<◌, ◌^◌, length, OnOk};
+ghost use Rattle.std.specs.Prelude.{◌≡◌, ◌∷◌, [], ◌<◌, ◌^◌, length, OnOk};
 ghost use Rattle.ether_make.specs.Captures.{Ends, Grows, IsBegun, IsHeaderOf, IsRecordOf, IsTheCapture, WritesPart, captured as captured_in, fcs_len as fcs_len_in};
 ghost use Rattle.ether_make.specs.FrameViews.{frame_view};
 ghost use Rattle.ether_make.specs.Lines.{linked};
@@ -19,7 +19,7 @@ pub fn write_frame<W: Write>(
 ) -> io::Result<()>
     ensures link { OnOk result (link.new ≡ linked link.old (frame_view frame.now)) }
     ensures grows { OnOk result (length frame.now.bytes.items < 2 ^ 32
-        → Grows (IsBegun fcs) link.old (linked link.old (frame_view frame.now)) (frame_view frame.now)
+        → Grows (IsBegun fcs) link.old (linked link.old (frame_view frame.now)) (frame_view frame.now ∷ [])
         (W.contents writer.old) (W.contents writer.new)) }
 {
     match *link {

@@ -60,7 +60,7 @@ fn given_bits(
 }
 
 /// Whether bytes are given, as a text.
-fn is_text(kind: Kind) -> bool
+pub(crate) fn is_text(kind: Kind) -> bool
     ensures { result ≡ is_text_in kind }
 {
     matches!(kind, Kind::Bytes | Kind::ProtocolAddress)
@@ -90,14 +90,18 @@ fn text_bits(
 }
 
 /// Whether bytes have as many bits.
-fn is_as_long(bytes: &[u8], len: usize) -> bool
+pub(crate) fn is_as_long(bytes: &[u8], len: usize) -> bool
     ensures { result ≡ nat_eq (8 * length bytes.now) len }
 {
     len % 8 == 0 && bytes.len() == len / 8
 }
 
 /// The bytes that a text spells.
-fn text_bytes(alloc: Global, kind: Kind, text: &[u8]) -> Result<Option<Vec<u8>>, AllocError>
+pub(crate) fn text_bytes(
+    alloc: Global,
+    kind: Kind,
+    text: &[u8],
+) -> Result<Option<Vec<u8>>, AllocError>
     ensures { IfOk result (λ o. option_map (λ v. v.items) o ≡ text_bytes_in kind text.now) }
 {
     if kind == Kind::ProtocolAddress && has_dot(text) {
@@ -135,7 +139,7 @@ fn number_bits(
 }
 
 /// Whether a number has no more bits.
-fn fits(number: u64, len: usize) -> bool
+pub(crate) fn fits(number: u64, len: usize) -> bool
     ensures { result ≡ nat_lt number (2 ^ len) }
 {
     if len >= 64 {

@@ -8,7 +8,7 @@ ghost use Rattle.ether_make.specs.Refusals.{Tells, result_map};
 
 use crate::bits::pack;
 use crate::field_bits::field_bits;
-use crate::objects::{given, unknown_member};
+use crate::objects::{first_given, given, unknown_member};
 use crate::refusal::{Fault, Reason, Refusal};
 use crate::sizes::{Lengths, len_of, lengths_of};
 use ether_fields::{Field, Section};
@@ -84,7 +84,7 @@ fn rule(lengths: &Lengths, next: Option<Section>, row: u32) -> u64
 }
 
 /// How many bits of a field a text spells, if these are not all.
-fn part(lengths: &Lengths, row: u32) -> Option<usize>
+pub(crate) fn part(lengths: &Lengths, row: u32) -> Option<usize>
     ensures { result ≡ part_in lengths.now row }
 {
     match row {
@@ -104,7 +104,7 @@ fn field_meaning<'v>(
 ) -> Result<Vec<bool>, Fault<'v>>
     ensures { Tells (λ v. v.items) (field_meaning_in at lengths.now next (view object.now) (field_view field.now)) result }
 {
-    let value = given(object, field.name);
+    let value = first_given(object, field.name);
     let len = len_of(field.extent, &lengths.sizes);
     match field_bits(
         alloc,

@@ -1,6 +1,7 @@
 //! The lines of files, one after another.
 use crate::output::write_end;
 use crate::program::{RunFault, make_lines};
+use crate::progress::Progress;
 use crate::request::Job;
 use std::alloc::Global;
 use std::fs;
@@ -29,8 +30,8 @@ pub(crate) fn run_files<'a, F: Files, R: BufRead, W: Write>(
     reader: &mut R,
     writer: &mut W,
 ) -> Result<(), FileFault<'a>> {
-    let mut link = None;
-    let ending = make_files(files, alloc, job, reader, writer, &mut link);
+    let mut progress = Progress::new(job.settings.seed);
+    let ending = make_files(files, alloc, job, reader, writer, &mut progress);
     if let Err(
         FileFault {
             file,
@@ -43,7 +44,7 @@ pub(crate) fn run_files<'a, F: Files, R: BufRead, W: Write>(
             fault: RunFault::Output(error),
         });
     }
-    match write_end(&job.settings, writer, link) {
+    match write_end(&job.settings, writer, progress.link) {
         Ok(()) => ending,
         Err(error) => Err(FileFault {
             file: None,
@@ -59,16 +60,16 @@ fn make_files<'a, F: Files, R: BufRead, W: Write>(
     job: &Job<'a>,
     reader: &mut R,
     writer: &mut W,
-    link: &mut Option<u16>,
+    progress: &mut Progress,
 ) -> Result<(), FileFault<'a>> {
     if job.files.is_empty() {
-        return match make_lines(alloc, &job.settings, reader, writer, link) {
+        return match make_lines(alloc, &job.settings, reader, writer, progress) {
             Ok(()) => Ok(()),
             Err(fault) => Err(FileFault { file: None, fault }),
         };
     }
     for name in job.files.as_slice() {
-        make_file(files, alloc, job, name, reader, writer, link)?;
+        make_file(files, alloc, job, name, reader, writer, progress)?;
     }
     Ok(())
 }
@@ -81,15 +82,15 @@ fn make_file<'a, F: Files, R: BufRead, W: Write>(
     name: &'a str,
     reader: &mut R,
     writer: &mut W,
-    link: &mut Option<u16>,
+    progress: &mut Progress,
 ) -> Result<(), FileFault<'a>> {
     if name == STANDARD_INPUT {
-        return match make_lines(alloc, &job.settings, reader, writer, link) {
+        return match make_lines(alloc, &job.settings, reader, writer, progress) {
             Ok(()) => Ok(()),
             Err(fault) => Err(FileFault { file: None, fault }),
         };
     }
-    match make_named(files, alloc, job, name, writer, link) {
+    match make_named(files, alloc, job, name, writer, progress) {
         Ok(()) => Ok(()),
         Err(fault) => Err(FileFault {
             file: Some(name),
@@ -105,14 +106,14 @@ fn make_named<F: Files, W: Write>(
     job: &Job<'_>,
     name: &str,
     writer: &mut W,
-    link: &mut Option<u16>,
+    progress: &mut Progress,
 ) -> Result<(), RunFault> {
     let file = match fs::open(files, name) {
         Ok(file) => file,
         Err(error) => return Err(RunFault::Input(error)),
     };
     match BufReader::new(alloc, file) {
-        Ok(mut reader) => make_lines(alloc, &job.settings, &mut reader, writer, link),
+        Ok(mut reader) => make_lines(alloc, &job.settings, &mut reader, writer, progress),
         Err(error) => Err(RunFault::Input(error)),
     }
 }

@@ -1,14 +1,13 @@
-//! The frame that a line of text means.
-ghost use Rattle.std.specs.Prelude.{◌≡◌, IfOk, IfErr};
+//! The frames that a line of text means.
+ghost use Rattle.std.specs.Prelude.{◌≡◌, None, IfOk, IfErr};
 ghost use Rattle.serde_json.specs.View.{view};
-ghost use Rattle.ether_make.specs.Frames.{frame_meaning};
-ghost use Rattle.ether_make.specs.FrameViews.{frame_view};
 ghost use Rattle.ether_make.specs.Lines.{IsJson, one_link, sized};
 ghost use Rattle.ether_make.specs.LineViews.{IsNotJson, IsOwned, LineOf, TellsLine};
-ghost use Rattle.ether_make.specs.Refusals.{refusal_view};
+ghost use Rattle.ether_make.specs.Refusals.{refusal_view, refused};
+ghost use Rattle.ether_make.specs.Templates.{template_meaning};
 
-use crate::frame::{Frame, make_frame};
 use crate::refusal::{Fault, Reason, Refusal};
+use crate::template::{Template, make_template};
 use serde_json::Value;
 use std::alloc::Global;
 
@@ -52,12 +51,12 @@ impl Stop {
     };
 }
 
-/// The frame of a line, after frames with this link type, if there are any.
-pub fn line_frame(alloc: Global, text: &[u8], link: Option<u16>) -> Result<Frame, LineFault>
+/// The frames of a line, after frames with this link type, if there are any.
+pub fn line_template(alloc: Global, text: &[u8], link: Option<u16>) -> Result<Template, LineFault>
     ensures { LineOf link text.now result }
 {
     match value_of(alloc, text) {
-        Ok(value) => object_frame(alloc, &value, link),
+        Ok(value) => object_template(alloc, &value, link),
         Err(fault) => Err(fault),
     }
 }
@@ -78,36 +77,31 @@ fn value_of(alloc: Global, text: &[u8]) -> Result<Value, LineFault>
     }
 }
 
-/// The frame of an object.
-fn object_frame(alloc: Global, object: &Value, link: Option<u16>) -> Result<Frame, LineFault>
-    ensures { TellsLine (one_link link (sized (frame_meaning (view object.now)))) result }
+/// The frames of an object.
+fn object_template(alloc: Global, object: &Value, link: Option<u16>) -> Result<Template, LineFault>
+    ensures { TellsLine (one_link link (sized (template_meaning (view object.now)))) result }
 {
-    match sized_frame(alloc, object) {
-        Ok(frame) => match link {
-            Some(link) if frame.link != link => Err(owned(
-                alloc,
-                &Refusal {
-                    header: None,
-                    member: "link",
-                    reason: Reason::OtherFrames,
-                },
-            )),
-            _ => Ok(frame),
+    match sized_template(alloc, object) {
+        Ok(template) => match link {
+            Some(link) if template.frame.link != link => {
+                Err(owned_refusal(alloc, "link", Reason::OtherFrames))
+            }
+            _ => Ok(template),
         },
         Err(fault) => Err(fault),
     }
 }
 
-/// The frame of an object, whatever its link type is.
-fn sized_frame(alloc: Global, object: &Value) -> Result<Frame, LineFault>
-    ensures { TellsLine (sized (frame_meaning (view object.now))) result }
+/// The frames of an object, whatever their link type is.
+fn sized_template(alloc: Global, object: &Value) -> Result<Template, LineFault>
+    ensures { TellsLine (sized (template_meaning (view object.now))) result }
 {
-    match make_frame(alloc, object) {
-        Ok(frame) => {
-            if frame.bytes.len() > LONGEST {
+    match make_template(alloc, object) {
+        Ok(template) => {
+            if template.frame.bytes.len() > LONGEST {
                 return Err(LineFault::TooLong);
             }
-            Ok(frame)
+            Ok(template)
         }
         Err(Fault::Refused(refusal)) => Err(owned(alloc, &refusal)),
         Err(Fault::Memory) => Err(LineFault::Memory),
@@ -126,4 +120,18 @@ fn owned(alloc: Global, refusal: &Refusal) -> LineFault
         },
         Err(_) => LineFault::Memory,
     }
+}
+
+/// The refusal of a member that is no header's.
+pub(crate) fn owned_refusal(alloc: Global, member: &str, reason: Reason) -> LineFault
+    ensures { IsOwned (refused None member.now reason) result }
+{
+    owned(
+        alloc,
+        &Refusal {
+            header: None,
+            member,
+            reason,
+        },
+    )
 }

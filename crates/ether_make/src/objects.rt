@@ -3,7 +3,7 @@ ghost use Rattle.std.specs.Prelude.{◌≡◌, ◌++◌, map};
 ghost use Rattle.std.specs.Option.{option_map};
 ghost use Rattle.serde_json.specs.View.{view, members_view};
 ghost use Rattle.ether_fields.specs.Fields.{field_view};
-ghost use Rattle.ether_make.specs.Objects.{given as given_in, number_of as number_in, is_among, unknown_in, unknown_member as unknown_member_in};
+ghost use Rattle.ether_make.specs.Objects.{first_given as first_given_in, given as given_in, number_of as number_in, is_among, unknown_in, unknown_member as unknown_member_in};
 
 use ether_fields::Field;
 use serde_json::{Map, Value};
@@ -14,6 +14,18 @@ pub fn given<'v>(object: &'v Value, name: &str) -> Option<&'v Value>
 {
     let value = object.get(name)?;
     if value.is_null() { None } else { Some(value) }
+}
+
+/// The value of a field. That of a range is its first one.
+pub fn first_given<'v>(object: &'v Value, name: &str) -> Option<&'v Value>
+    ensures { option_map (λ v. view v.now) result ≡ first_given_in name.now (view object.now) }
+{
+    let value = given(object, name)?;
+    if value.is_object() {
+        Some(given(value, "from").unwrap_or(value))
+    } else {
+        Some(value)
+    }
 }
 
 /// A number from 0 on.

@@ -18,7 +18,7 @@ pub struct Settings {
     pub fcs: bool,
     /// How frames are written.
     pub form: Form,
-    /// How many frames are made.
+    /// How many frames each line has; without it one for each combination of the numbers of its ranges.
     pub count: Option<u64>,
     /// What random numbers are drawn from.
     pub seed: u64,

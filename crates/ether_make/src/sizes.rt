@@ -2,13 +2,13 @@
 ghost use Rattle.std.specs.Prelude.{◌≡◌, ◌/◌, ◌+◌, length};
 ghost use Rattle.std.specs.Option.{option_and_then};
 ghost use Rattle.serde_json.specs.View.{view};
-ghost use Rattle.ether_make.specs.Objects.{given as given_in, number_of as number_in};
+ghost use Rattle.ether_make.specs.Objects.{first_given as first_given_in, number_of as number_in};
 ghost use Rattle.ether_fields.specs.Places.{bits_of};
 ghost use Rattle.ether_fields.specs.declared.part.Part.TheVariants.{Header};
 ghost use Rattle.ether_make.specs.Sizes.{text_size as text_size_in, address_size as address_size_in, given_size as given_size_in, size as size_in, is_zero as is_zero_in, has_sci as has_sci_in, sizes_of as sizes_of_in, address_len as address_len_in, lengths_of as lengths_of_in};
 
 use crate::field_bits::has_dot;
-use crate::objects::{given, number_of};
+use crate::objects::{first_given, number_of};
 use ether_fields::{Extent, Sizes};
 use serde_json::Value;
 
@@ -46,19 +46,19 @@ fn address_len(object: &Value) -> u64
 
 /// A number that is given.
 fn given_number(object: &Value, name: &str) -> Option<u64>
-    ensures { result ≡ option_and_then number_in (given_in name.now (view object.now)) }
+    ensures { result ≡ option_and_then number_in (first_given_in name.now (view object.now)) }
 {
-    number_of(given(object, name)?)
+    number_of(first_given(object, name)?)
 }
 
 /// Whether a SecTag has an SCI: if its SC bit says so, or if that bit is missing and an SCI is given.
 fn has_sci(object: &Value) -> bool
     ensures { result ≡ has_sci_in (view object.now) }
 {
-    if given(object, "sc").is_some() {
+    if first_given(object, "sc").is_some() {
         !is_zero(object, "sc")
     } else {
-        given(object, "sci").is_some()
+        first_given(object, "sci").is_some()
     }
 }
 
@@ -78,7 +78,7 @@ fn sizes_of(object: &Value) -> Sizes
 fn is_zero(object: &Value, name: &str) -> bool
     ensures { result ≡ is_zero_in name.now (view object.now) }
 {
-    match given(object, name) {
+    match first_given(object, name) {
         Some(value) => number_of(value) == Some(0),
         None => true,
     }
@@ -101,7 +101,7 @@ fn size(object: &Value, count: &str, first: &str, second: &str, usual: u8) -> u8
 fn given_size(object: &Value, name: &str) -> Option<u8>
     ensures { result ≡ given_size_in name.now (view object.now) }
 {
-    let number = number_of(given(object, name)?)?;
+    let number = number_of(first_given(object, name)?)?;
     if number < 256 {
         Some(number as u8)
     } else {
@@ -113,7 +113,7 @@ fn given_size(object: &Value, name: &str) -> Option<u8>
 fn address_size(object: &Value, name: &str) -> Option<u8>
     ensures { result ≡ address_size_in name.now (view object.now) }
 {
-    text_size(given(object, name)?.as_str()?.as_bytes())
+    text_size(first_given(object, name)?.as_str()?.as_bytes())
 }
 
 /// How many bytes a text spells.

@@ -18,9 +18,9 @@ bytes after the headers are the hexadecimal digits of \"rest\":{\"bytes\":\"..\"
 Frames:
   --pad             add zeros to frames of Ethernet that have fewer than 60 bytes, up to 60
   --fcs             append its check sequence to each frame of Ethernet
-  --count N         make N frames at most, of all lines together
-  --seed N          draw random numbers from N, 0 without it
-  --rate N          give N frames a second their times
+  --count N         make N frames of each line
+  --seed N          draw the random numbers of ranges from N
+  --rate N          let N frames follow each other in a second
 
 Output:
   --hex             write each frame as a line of hexadecimal digits, as ether_tool reads it

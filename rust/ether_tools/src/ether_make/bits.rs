@@ -73,3 +73,39 @@ fn bit_of(value: u64, place: usize) -> bool {
     }
     (value >> place) % 2 == 1
 }
+
+/// Writes the last `len` bits of a number over those at a place of bytes.
+///
+/// # Panics
+///
+/// The call may panic, or return something else, if a `requires` of its contract is not met.
+///
+/// <details><summary>Contract</summary>
+///
+/// ```text
+/// requires { (at + len ≤ 8 * length bytes.old) × (at + len < 2 ^ 64) }
+/// ensures bits { bits_of bytes.new ≡ with_bits at len value (bits_of bytes.old) }
+/// ensures len { length bytes.new ≡ length bytes.old }
+/// ```
+///
+/// </details>
+pub fn set_bits(bytes: &mut [u8], at: usize, len: usize, value: u64) {
+    let mut left = len;
+    let mut more = value;
+    while left > 0 {
+        let place = (at + left - 1) / 8;
+        let end = at + left - 8 * place;
+        let count = end.min(left);
+        bytes[place] = byte_with(bytes[place], end - count, count, more);
+        more >>= count;
+        left -= count;
+    }
+}
+
+/// A byte with the last `count` bits of a number at a place of it.
+fn byte_with(byte: u8, at: usize, count: usize, value: u64) -> u8 {
+    let after = 8 - at - count;
+    let front = byte as usize >> (8 - at) << (8 - at);
+    let middle = (value as usize % (1 << count)) << after;
+    (front + middle + byte as usize % (1 << after)) as u8
+}

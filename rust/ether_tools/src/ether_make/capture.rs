@@ -13,7 +13,7 @@ use std::io::Write;
 /// ```text
 /// ensures link { OnOk result (link.new ≡ linked link.old (frame_view frame.now)) }
 /// ensures grows { OnOk result (length frame.now.bytes.items < 2 ^ 32
-///     → Grows (IsBegun fcs) link.old (linked link.old (frame_view frame.now)) (frame_view frame.now)
+///     → Grows (IsBegun fcs) link.old (linked link.old (frame_view frame.now)) (frame_view frame.now ∷ [])
 ///     (W.contents writer.old) (W.contents writer.new)) }
 /// ```
 ///

@@ -58,7 +58,7 @@ fn given_bits(
 }
 
 /// Whether bytes are given, as a text.
-fn is_text(kind: Kind) -> bool {
+pub(in crate::ether_make) fn is_text(kind: Kind) -> bool {
     matches!(kind, Kind::Bytes | Kind::ProtocolAddress)
 }
 
@@ -83,12 +83,16 @@ fn text_bits(
 }
 
 /// Whether bytes have as many bits.
-fn is_as_long(bytes: &[u8], len: usize) -> bool {
+pub(in crate::ether_make) fn is_as_long(bytes: &[u8], len: usize) -> bool {
     len % 8 == 0 && bytes.len() == len / 8
 }
 
 /// The bytes that a text spells.
-fn text_bytes(alloc: Global, kind: Kind, text: &[u8]) -> Result<Option<Vec<u8>>, AllocError> {
+pub(in crate::ether_make) fn text_bytes(
+    alloc: Global,
+    kind: Kind,
+    text: &[u8],
+) -> Result<Option<Vec<u8>>, AllocError> {
     if kind == Kind::ProtocolAddress && has_dot(text) {
         dotted_bytes(alloc, text)
     } else {
@@ -128,7 +132,7 @@ fn number_bits(
 }
 
 /// Whether a number has no more bits.
-fn fits(number: u64, len: usize) -> bool {
+pub(in crate::ether_make) fn fits(number: u64, len: usize) -> bool {
     if len >= 64 {
         return true;
     }

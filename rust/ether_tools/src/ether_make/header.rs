@@ -2,7 +2,7 @@
 
 use crate::ether_make::bits::pack;
 use crate::ether_make::field_bits::field_bits;
-use crate::ether_make::objects::{given, unknown_member};
+use crate::ether_make::objects::{first_given, given, unknown_member};
 use crate::ether_make::refusal::{Fault, Reason, Refusal};
 use crate::ether_make::sizes::{Lengths, len_of, lengths_of};
 use etherpeel::ether_fields::{Field, Section};
@@ -84,7 +84,7 @@ fn rule(lengths: &Lengths, next: Option<Section>, row: u32) -> u64 {
 }
 
 /// How many bits of a field a text spells, if these are not all.
-fn part(lengths: &Lengths, row: u32) -> Option<usize> {
+pub(in crate::ether_make) fn part(lengths: &Lengths, row: u32) -> Option<usize> {
     match row {
         7 | 41 => Some(8 * lengths.address.min(8) as usize),
         _ => None,
@@ -100,7 +100,7 @@ fn field_meaning<'v>(
     object: &'v Value,
     field: &'static Field,
 ) -> Result<Vec<bool>, Fault<'v>> {
-    let value = given(object, field.name);
+    let value = first_given(object, field.name);
     let len = len_of(field.extent, &lengths.sizes);
     match field_bits(
         alloc,

@@ -2,6 +2,7 @@
 use crate::ether_make::memory::Global;
 use crate::ether_make::output::write_end;
 use crate::ether_make::program::{RunFault, make_lines};
+use crate::ether_make::progress::Progress;
 use crate::ether_make::request::Job;
 use std::fs::File;
 use std::io::{BufRead, BufReader, Write};
@@ -18,13 +19,13 @@ pub struct FileFault<'a> {
 /// standard input, which is read if no file is named. The first fault ends the run; the output has the frames of all
 /// lines before it.
 pub fn run_files<'a, R: BufRead, W: Write>(job: &Job<'a>, reader: &mut R, writer: &mut W) -> Result<(), FileFault<'a>> {
-    let mut link = None;
+    let mut progress = Progress::new(job.settings.seed);
     let names = if job.files.is_empty() { &["-"] } else { job.files.as_slice() };
-    let ending = names.iter().try_for_each(|name| make_file(job, name, reader, writer, &mut link));
+    let ending = names.iter().try_for_each(|name| make_file(job, name, reader, writer, &mut progress));
     if let Err(FileFault { fault: RunFault::Output(_), .. }) = ending {
         return ending;
     }
-    let written = write_end(&job.settings, writer, link);
+    let written = write_end(&job.settings, writer, progress.link);
     written.map_err(|error| FileFault { file: None, fault: RunFault::Output(error) }).and(ending)
 }
 
@@ -34,14 +35,14 @@ fn make_file<'a, R: BufRead, W: Write>(
     name: &'a str,
     reader: &mut R,
     writer: &mut W,
-    link: &mut Option<u16>,
+    progress: &mut Progress,
 ) -> Result<(), FileFault<'a>> {
     if name == "-" {
-        let made = make_lines(Global, &job.settings, reader, writer, link);
+        let made = make_lines(Global, &job.settings, reader, writer, progress);
         return made.map_err(|fault| FileFault { file: None, fault });
     }
     let made = match File::open(name) {
-        Ok(file) => make_lines(Global, &job.settings, &mut BufReader::new(file), writer, link),
+        Ok(file) => make_lines(Global, &job.settings, &mut BufReader::new(file), writer, progress),
         Err(error) => Err(RunFault::Input(error)),
     };
     made.map_err(|fault| FileFault { file: Some(name), fault })

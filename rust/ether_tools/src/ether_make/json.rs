@@ -1,12 +1,15 @@
 //! Values of JSON, which `serde_json` reads. Written by hand, not proved.
 use crate::ether_make::memory::Global;
 use serde::de::{Deserialize, Deserializer, MapAccess, SeqAccess, Visitor};
+use std::collections::BTreeMap;
 use std::fmt;
 
 /// A value of JSON, as far as the program tells values apart.
 pub enum Value {
     /// `null`.
     Null,
+    /// A truth value.
+    Bool(bool),
     /// A number from 0 on that has 64 bits.
     Number(u64),
     /// A text.
@@ -15,13 +18,13 @@ pub enum Value {
     Array(Vec<Value>),
     /// An object.
     Object(Map<String, Value>),
-    /// Another number, or a truth value.
+    /// Another number.
     Other,
 }
 
-/// The members of an object, in their order. One whose name is there again has the last value.
+/// The members of an object, in the order of their names. One whose name is there again has the last value.
 pub struct Map<K, V> {
-    members: Vec<(K, V)>,
+    members: BTreeMap<K, V>,
 }
 
 /// A text is no value of JSON. `serde_json` ends the program if it gets no memory.
@@ -42,22 +45,14 @@ pub fn from_slice(_alloc: Global, text: &[u8]) -> Result<Value, NoValue> {
 impl<V> Map<String, V> {
     /// The names of the members.
     pub fn keys(&self) -> impl Iterator<Item = &String> {
-        self.members.iter().map(|(name, _)| name)
-    }
-
-    /// Adds a member, or replaces its value.
-    fn insert(&mut self, name: String, value: V) {
-        match self.members.iter_mut().find(|(it, _)| *it == name) {
-            Some((_, old)) => *old = value,
-            None => self.members.push((name, value)),
-        }
+        self.members.keys()
     }
 }
 
 impl Value {
     /// The value of a member of an object.
     pub fn get(&self, name: &str) -> Option<&Value> {
-        self.as_object()?.members.iter().find(|(it, _)| it == name).map(|(_, value)| value)
+        self.as_object()?.members.get(name)
     }
 
     /// Tests that the value is `null`.
@@ -68,6 +63,11 @@ impl Value {
     /// Tests that the value is an object.
     pub fn is_object(&self) -> bool {
         matches!(self, Value::Object(_))
+    }
+
+    /// A truth value.
+    pub fn as_bool(&self) -> Option<bool> {
+        if let Value::Bool(value) = self { Some(*value) } else { None }
     }
 
     /// A number from 0 on.
@@ -111,8 +111,8 @@ impl<'de> Visitor<'de> for AnyValue {
         Ok(Value::Null)
     }
 
-    fn visit_bool<E>(self, _: bool) -> Result<Value, E> {
-        Ok(Value::Other)
+    fn visit_bool<E>(self, value: bool) -> Result<Value, E> {
+        Ok(Value::Bool(value))
     }
 
     fn visit_u64<E>(self, number: u64) -> Result<Value, E> {
@@ -140,10 +140,10 @@ impl<'de> Visitor<'de> for AnyValue {
     }
 
     fn visit_map<A: MapAccess<'de>>(self, mut from: A) -> Result<Value, A::Error> {
-        let mut map = Map { members: Vec::new() };
+        let mut members = BTreeMap::new();
         while let Some((name, value)) = from.next_entry()? {
-            map.insert(name, value);
+            members.insert(name, value);
         }
-        Ok(Value::Object(map))
+        Ok(Value::Object(Map { members }))
     }
 }

@@ -1,7 +1,7 @@
-//! The frame that a line of text means.
+//! The frames that a line of text means.
 
-use crate::ether_make::frame::{Frame, make_frame};
 use crate::ether_make::refusal::{Fault, Reason, Refusal};
+use crate::ether_make::template::{Template, make_template};
 use crate::ether_make::json::Value;
 use crate::ether_make::memory::Global;
 
@@ -45,7 +45,7 @@ impl Stop {
     };
 }
 
-/// The frame of a line, after frames with this link type, if there are any.
+/// The frames of a line, after frames with this link type, if there are any.
 ///
 /// <details><summary>Contract</summary>
 ///
@@ -54,9 +54,9 @@ impl Stop {
 /// ```
 ///
 /// </details>
-pub fn line_frame(alloc: Global, text: &[u8], link: Option<u16>) -> Result<Frame, LineFault> {
+pub fn line_template(alloc: Global, text: &[u8], link: Option<u16>) -> Result<Template, LineFault> {
     match value_of(alloc, text) {
-        Ok(value) => object_frame(alloc, &value, link),
+        Ok(value) => object_template(alloc, &value, link),
         Err(fault) => Err(fault),
     }
 }
@@ -74,32 +74,27 @@ fn value_of(alloc: Global, text: &[u8]) -> Result<Value, LineFault> {
     }
 }
 
-/// The frame of an object.
-fn object_frame(alloc: Global, object: &Value, link: Option<u16>) -> Result<Frame, LineFault> {
-    match sized_frame(alloc, object) {
-        Ok(frame) => match link {
-            Some(link) if frame.link != link => Err(owned(
-                alloc,
-                &Refusal {
-                    header: None,
-                    member: "link",
-                    reason: Reason::OtherFrames,
-                },
-            )),
-            _ => Ok(frame),
+/// The frames of an object.
+fn object_template(alloc: Global, object: &Value, link: Option<u16>) -> Result<Template, LineFault> {
+    match sized_template(alloc, object) {
+        Ok(template) => match link {
+            Some(link) if template.frame.link != link => {
+                Err(owned_refusal(alloc, "link", Reason::OtherFrames))
+            }
+            _ => Ok(template),
         },
         Err(fault) => Err(fault),
     }
 }
 
-/// The frame of an object, whatever its link type is.
-fn sized_frame(alloc: Global, object: &Value) -> Result<Frame, LineFault> {
-    match make_frame(alloc, object) {
-        Ok(frame) => {
-            if frame.bytes.len() > LONGEST {
+/// The frames of an object, whatever their link type is.
+fn sized_template(alloc: Global, object: &Value) -> Result<Template, LineFault> {
+    match make_template(alloc, object) {
+        Ok(template) => {
+            if template.frame.bytes.len() > LONGEST {
                 return Err(LineFault::TooLong);
             }
-            Ok(frame)
+            Ok(template)
         }
         Err(Fault::Refused(refusal)) => Err(owned(alloc, &refusal)),
         Err(Fault::Memory) => Err(LineFault::Memory),
@@ -116,4 +111,16 @@ fn owned(alloc: Global, refusal: &Refusal) -> LineFault {
         },
         Err(_) => LineFault::Memory,
     }
+}
+
+/// The refusal of a member that is no header's.
+pub(in crate::ether_make) fn owned_refusal(alloc: Global, member: &str, reason: Reason) -> LineFault {
+    owned(
+        alloc,
+        &Refusal {
+            header: None,
+            member,
+            reason,
+        },
+    )
 }

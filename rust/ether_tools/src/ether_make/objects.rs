@@ -17,6 +17,24 @@ pub fn given<'v>(object: &'v Value, name: &str) -> Option<&'v Value> {
     if value.is_null() { None } else { Some(value) }
 }
 
+/// The value of a field. That of a range is its first one.
+///
+/// <details><summary>Contract</summary>
+///
+/// ```text
+/// ensures { option_map (λ v. view v.now) result ≡ first_given_in name.now (view object.now) }
+/// ```
+///
+/// </details>
+pub fn first_given<'v>(object: &'v Value, name: &str) -> Option<&'v Value> {
+    let value = given(object, name)?;
+    if value.is_object() {
+        Some(given(value, "from").unwrap_or(value))
+    } else {
+        Some(value)
+    }
+}
+
 /// A number from 0 on.
 ///
 /// <details><summary>Contract</summary>

@@ -1,37 +1,46 @@
 //! The output of frames, in the form that is asked for.
 
 use crate::ether_make::check_sequence::check_sequence;
-use crate::ether_make::frame::{Frame, padded};
+use crate::ether_make::frame::Frame;
 use crate::ether_make::settings::{Form, Settings};
 use crate::ether_make::{capture, hex_lines};
 use crate::ether_make::memory::{AllocError, Taking};
 use std::io;
 use std::io::Write;
 
-/// A frame with what is to be appended to it.
+/// A frame with its check sequence, if that is asked for and the frame is one of Ethernet.
 ///
 /// <details><summary>Contract</summary>
 ///
 /// ```text
-/// ensures { IfOk result (λ f. frame_view f ≡ finished_in settings.now (frame_view frame)) }
+/// ensures finished { IfOk result (λ f. frame_view f ≡ finished_in settings.now (frame_view frame)) }
+/// ensures len { IfOk result (λ f. length f.bytes.items
+///     ≡ length frame.bytes.items + (if settings.now.fcs && nat_eq frame.link 1 then 4 else 0)) }
 /// ```
 ///
 /// </details>
 pub fn finished(settings: &Settings, frame: Frame) -> Result<Frame, AllocError> {
-    checked(padded(frame, settings.pad)?, settings.fcs)
+    let has_sequence = has_sequence(settings, &frame);
+    let Frame { link, time, bytes } = frame;
+    let bytes = if has_sequence {
+        with_sequence(bytes)?
+    } else {
+        bytes
+    };
+    Ok(Frame { link, time, bytes })
 }
 
-/// Appends its check sequence to a frame of Ethernet, if that is asked for.
-fn checked(frame: Frame, fcs: bool) -> Result<Frame, AllocError> {
-    if !fcs || frame.link != 1 {
-        return Ok(frame);
-    }
-    let Frame { link, time, bytes } = frame;
-    Ok(Frame {
-        link,
-        time,
-        bytes: with_sequence(bytes)?,
-    })
+/// Whether a frame has a check sequence.
+///
+/// <details><summary>Contract</summary>
+///
+/// ```text
+/// ensures { result ≡ (settings.now.fcs && nat_eq frame.now.link 1) }
+/// ```
+///
+/// </details>
+pub fn has_sequence(settings: &Settings, frame: &Frame) -> bool {
+    settings.fcs && frame.link == 1
 }
 
 /// Bytes with their check sequence after them.
@@ -51,7 +60,7 @@ fn with_sequence(bytes: Vec<u8>) -> Result<Vec<u8>, AllocError> {
 /// ensures link { OnOk result (link.new ≡ linked link.old (frame_view frame.now)) }
 /// ensures grows { OnOk result (length frame.now.bytes.items < 2 ^ 32
 ///     → Grows (IsBegunAs settings.now.form settings.now.fcs) link.old (linked link.old (frame_view frame.now))
-///     (frame_view frame.now) (W.contents writer.old) (W.contents writer.new)) }
+///     (frame_view frame.now ∷ []) (W.contents writer.old) (W.contents writer.new)) }
 /// ```
 ///
 /// </details>

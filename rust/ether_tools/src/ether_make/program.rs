@@ -1,7 +1,10 @@
 //! What a run of the program makes of its input.
 
-use crate::ether_make::lines::{LineFault, Stop, line_frame};
-use crate::ether_make::output::{finished, write_end, write_frame};
+use crate::ether_make::lines::{LineFault, Stop, line_template, owned_refusal};
+use crate::ether_make::output::write_end;
+use crate::ether_make::progress::{Progress, is_timely};
+use crate::ether_make::refusal::Reason;
+use crate::ether_make::series::{Series, series_of, write_series};
 use crate::ether_make::settings::Settings;
 use crate::ether_make::memory::Global;
 use std::io::{BufRead, Write};
@@ -23,10 +26,10 @@ pub enum RunFault {
 /// <details><summary>Contract</summary>
 ///
 /// ```text
-/// ensures made { OnOk result (HasMade None (IsOutput settings.now) (R.remaining reader.old) (R.remaining reader.new)
-///     (W.contents writer.old) (W.contents writer.new)) }
-/// ensures fault { IfErr result (AfterFault None (IsOutput settings.now) (R.remaining reader.old) (R.remaining reader.new)
-///     (W.contents writer.old) (W.contents writer.new)) }
+/// ensures made { OnOk result (HasMade settings.now (beginning settings.now.seed) (IsOutput settings.now)
+///     (R.remaining reader.old) (R.remaining reader.new) (W.contents writer.old) (W.contents writer.new)) }
+/// ensures fault { IfErr result (AfterFault settings.now (beginning settings.now.seed) (IsOutput settings.now)
+///     (R.remaining reader.old) (R.remaining reader.new) (W.contents writer.old) (W.contents writer.new)) }
 /// ```
 ///
 /// </details>
@@ -36,27 +39,27 @@ pub fn run<R: BufRead, W: Write>(
     reader: &mut R,
     writer: &mut W,
 ) -> Result<(), RunFault> {
-    let mut link = None;
-    match make_lines(alloc, settings, reader, writer, &mut link) {
-        Ok(()) => match write_end(settings, writer, link) {
+    let mut progress = Progress::new(settings.seed);
+    match make_lines(alloc, settings, reader, writer, &mut progress) {
+        Ok(()) => match write_end(settings, writer, progress.link) {
             Ok(()) => Ok(()),
             Err(error) => Err(RunFault::Output(error)),
         },
         Err(RunFault::Output(error)) => Err(RunFault::Output(error)),
-        Err(fault) => match write_end(settings, writer, link) {
+        Err(fault) => match write_end(settings, writer, progress.link) {
             Ok(()) => Err(fault),
             Err(error) => Err(RunFault::Output(error)),
         },
     }
 }
 
-/// Makes the frames of all lines, and writes them after frames with this link type, if there are any.
+/// Makes the frames of all lines, and writes them after those of other lines, if there are any.
 pub(in crate::ether_make) fn make_lines<R: BufRead, W: Write>(
     alloc: Global,
     settings: &Settings,
     reader: &mut R,
     writer: &mut W,
-    link: &mut Option<u16>,
+    progress: &mut Progress,
 ) -> Result<(), RunFault> {
     let mut line = crate::ether_make::memory::list(alloc);
     for number in 1..usize::MAX {
@@ -64,7 +67,7 @@ pub(in crate::ether_make) fn make_lines<R: BufRead, W: Write>(
             Ok(is_ended) => is_ended,
             Err(error) => return Err(RunFault::Input(error)),
         };
-        if let Err(fault) = take_line(alloc, settings, number, &line, writer, link) {
+        if let Err(fault) = take_line(alloc, settings, number, &line, writer, progress) {
             return Err(fault);
         }
         if !is_ended {
@@ -88,20 +91,20 @@ fn read_line<R: BufRead>(reader: &mut R, line: &mut Vec<u8>) -> io::Result<bool>
     Ok(false)
 }
 
-/// Makes the frame of a line, and writes it. An empty line means nothing.
+/// Makes the frames of a line, and writes them. An empty line means nothing.
 fn take_line<W: Write>(
     alloc: Global,
     settings: &Settings,
     number: usize,
     text: &[u8],
     writer: &mut W,
-    link: &mut Option<u16>,
+    progress: &mut Progress,
 ) -> Result<(), RunFault> {
     if text.is_empty() {
         return Ok(());
     }
-    let frame = match line_frame(alloc, text, *link) {
-        Ok(frame) => frame,
+    let (series, count) = match line_series(alloc, settings, text, progress) {
+        Ok(made) => made,
         Err(fault) => {
             return Err(RunFault::Line(Stop {
                 line: number,
@@ -109,15 +112,30 @@ fn take_line<W: Write>(
             }));
         }
     };
-    let Ok(frame) = finished(settings, frame) else {
-        return Err(RunFault::Line(Stop {
-            line: number,
-            fault: LineFault::Memory,
-        }));
-    };
-    match write_frame(settings, writer, link, &frame) {
+    match write_series(settings, series, count, writer, progress) {
         Ok(()) => Ok(()),
         Err(error) => Err(RunFault::Output(error)),
+    }
+}
+
+/// The frames of a line, and how many they are.
+fn line_series(
+    alloc: Global,
+    settings: &Settings,
+    text: &[u8],
+    progress: &Progress,
+) -> Result<(Series, u64), LineFault> {
+    let template = match line_template(alloc, text, progress.link) {
+        Ok(template) => template,
+        Err(fault) => return Err(fault),
+    };
+    let count = settings.count.unwrap_or(template.found.combinations);
+    if !is_timely(settings.rate, progress.pace, template.frame.time, count) {
+        return Err(owned_refusal(alloc, "time", Reason::OtherTime));
+    }
+    match series_of(settings, template) {
+        Ok(series) => Ok((series, count)),
+        Err(_) => Err(LineFault::Memory),
     }
 }
 

@@ -35,6 +35,10 @@ pub enum Reason {
     OtherHeader,
     /// The frames before have another link type.
     OtherFrames,
+    /// The object is no range of the field's numbers.
+    NotARange,
+    /// The ranges up to this one have too many combinations.
+    TooMany,
 }
 
 /// What is refused, and why.
@@ -85,6 +89,8 @@ impl Reason {
             Reason::OtherTime => "is a time before 1970 or after 7 February 2106",
             Reason::OtherHeader => "is not the link type of the first header",
             Reason::OtherFrames => "is not the link type of the frames before",
+            Reason::NotARange => "is no range of numbers that the field has",
+            Reason::TooMany => "has too many combinations with the ranges before it",
         }
     }
 }

@@ -1,7 +1,7 @@
 //! How many bits a header has in the fields whose length is not the same in each header.
 
 use crate::ether_make::field_bits::has_dot;
-use crate::ether_make::objects::{given, number_of};
+use crate::ether_make::objects::{first_given, number_of};
 use etherpeel::ether_fields::{Extent, Sizes};
 use crate::ether_make::json::Value;
 
@@ -43,15 +43,15 @@ fn address_len(object: &Value) -> u64 {
 
 /// A number that is given.
 fn given_number(object: &Value, name: &str) -> Option<u64> {
-    number_of(given(object, name)?)
+    number_of(first_given(object, name)?)
 }
 
 /// Whether a SecTag has an SCI: if its SC bit says so, or if that bit is missing and an SCI is given.
 fn has_sci(object: &Value) -> bool {
-    if given(object, "sc").is_some() {
+    if first_given(object, "sc").is_some() {
         !is_zero(object, "sc")
     } else {
-        given(object, "sci").is_some()
+        first_given(object, "sci").is_some()
     }
 }
 
@@ -67,7 +67,7 @@ fn sizes_of(object: &Value) -> Sizes {
 
 /// Whether a flag is missing, or no number but 0.
 fn is_zero(object: &Value, name: &str) -> bool {
-    match given(object, name) {
+    match first_given(object, name) {
         Some(value) => number_of(value) == Some(0),
         None => true,
     }
@@ -86,7 +86,7 @@ fn size(object: &Value, count: &str, first: &str, second: &str, usual: u8) -> u8
 
 /// A size that is given.
 fn given_size(object: &Value, name: &str) -> Option<u8> {
-    let number = number_of(given(object, name)?)?;
+    let number = number_of(first_given(object, name)?)?;
     if number < 256 {
         Some(number as u8)
     } else {
@@ -96,7 +96,7 @@ fn given_size(object: &Value, name: &str) -> Option<u8> {
 
 /// The size of an address that is given.
 fn address_size(object: &Value, name: &str) -> Option<u8> {
-    text_size(given(object, name)?.as_str()?.as_bytes())
+    text_size(first_given(object, name)?.as_str()?.as_bytes())
 }
 
 /// How many bytes a text spells.

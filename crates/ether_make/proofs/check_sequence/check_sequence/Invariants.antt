@@ -1,4 +1,4 @@
-use Rattle.std.proofs.Common.{◌≡◌, ◌+◌, ◌-◌, ◌*◌, ◌++◌, length, drop, replicate, true, false}
+use Rattle.std.proofs.Common.{◌≡◌, ◌-◌, ◌*◌, ◌++◌, length, drop, replicate, true, false}
 use Rattle.ether_make.specs.CheckSequences.{added, divided, low_bits, sent}
 use Rattle.ether_make.proofs.check_sequence.check_sequence.Given as goal
 

@@ -7,7 +7,8 @@ pub loop-preserved : goal.loop-preserved
 loop-preserved c =
     λ n rest enough.
     c.loop.invariant n rest enough
-    ∙ byte-step c.loop.counter c.loop.left n (low_bits 32 c.loop.register) (low_bits 32 c.with_bit-register.result) rest
+    ∙ byte-step c.loop.counter c.loop.left n (low_bits 32 c.loop.register) (low_bits 32 c.with_bit-register.result)
+    rest
     (omega (arith, c.loop-test.true)) enough c.with_bit-register.ensures
 
 pub returns : goal.returns

@@ -1,8 +1,8 @@
 use Rattle.std.proofs.Common.{eqb-true, sym, refl}
 use Rattle.std.proofs.KnownBytes.{Appends-nil}
 use Rattle.ether_make.specs.Program.{empty}
-use Rattle.ether_make.specs.FrameViews.{frame_view}
-use Rattle.ether_make.proofs.ProgramLemmas.{line-taken}
+use Rattle.ether_make.specs.Serial.{progress_view}
+use Rattle.ether_make.proofs.ProgramLemmas.{line-taken, series-fits}
 use Rattle.ether_make.proofs.TextLemmas.{not_empty}
 use Rattle.ether_make.proofs.program.take_line.Goals as goal
 
@@ -12,15 +12,19 @@ returns-then-is_empty-clause-taken g c = empty _ (eqb-true _ 0 (sym c.if-is_empt
 pub returns-in-Err-clause-fault : goal.returns-in-Err-clause-fault
 returns-in-Err-clause-fault g c = record {
   line = refl;
-  same_link = refl;
+  same = refl;
   some = not_empty _ c.if-is_empty.ensures;
   means = c.in-Err.ensures;
   unwritten = Appends-nil _;
 }
 
-pub returns-in-Ok-write_frame-clause-taken : goal.returns-in-Ok-write_frame-clause-taken
-returns-in-Ok-write_frame-clause-taken g c =
-    let frame = frame_view c.in-Ok.frame in
-    line-taken c.args.settings.now c.args.text.now _ _ _ _ frame (frame_view c.in-Ok-finished.frame)
-    (not_empty _ c.if-is_empty.ensures) c.in-Ok.ensures c.in-Ok-finished.ensures c.in-Ok-write_frame.ensures.link
-    c.in-Ok-write_frame.ensures.grows
+pub write_series-requires-clause-fits : goal.write_series-requires-clause-fits
+write_series-requires-clause-fits g c =
+    series-fits c.args.settings.now (progress_view c.args.progress.now) c.args.text.now c.in-Ok.made.0 c.in-Ok.made.1
+    c.in-Ok.ensures
+
+pub returns-in-Ok-write_series-clause-taken : goal.returns-in-Ok-write_series-clause-taken
+returns-in-Ok-write_series-clause-taken g c =
+    line-taken c.args.settings.now c.args.text.now _ _ (progress_view c.args.progress.now) _ c.in-Ok.made.1
+    c.in-Ok.made.0 (not_empty _ c.if-is_empty.ensures) c.in-Ok.ensures c.in-Ok-write_series.ensures.grows
+    c.in-Ok-write_series.ensures.progress

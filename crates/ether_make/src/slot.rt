@@ -1,0 +1,226 @@
+//! Where the ranges of an object are in its frame.
+ghost use Rattle.std.specs.Prelude.{◌≡◌, ◌*◌, ◌^◌, IfOk, None, Some, if◌then◌else◌, map, nat_lt};
+ghost use Rattle.std.specs.Option.{option_map};
+ghost use Rattle.serde_json.specs.View.{view};
+ghost use Rattle.ether_fields.specs.Fields.{field_view};
+ghost use Rattle.ether_fields.specs.Places.{bits_of};
+ghost use Rattle.ether_fields.specs.declared.part.Part.TheVariants.{Header};
+ghost use Rattle.ether_make.specs.Headers.{section_in as section_in_object};
+ghost use Rattle.ether_make.specs.Refusals.{Tells, result_map};
+ghost use Rattle.ether_make.specs.Slots.{after_field as after_field_in, after_fields as after_fields_in, after_headers as after_headers_in, after_section, choices as choices_in, field_found as field_found_in, lengthened, longer as longer_in, nothing, ranged as ranged_in, with_range as with_range_in, with_slot as with_slot_in};
+ghost use Rattle.ether_make.specs.SlotViews.{found_view};
+
+use crate::header::{part, section_in};
+use crate::objects::given;
+use crate::range::{NumberRange, range_of};
+use crate::refusal::{Fault, Reason, Refusal};
+use crate::sizes::{Lengths, len_of, lengths_of};
+use ether_fields::{Field, Kind};
+use serde_json::Value;
+use std::alloc::{AllocError, Global};
+
+/// The place of a range.
+#[derive(Clone, Copy, PartialEq, Eq, Debug)]
+pub struct Slot {
+    /// How many bits of the frame precede it.
+    pub at: usize,
+    /// How many bits it has.
+    pub len: usize,
+    /// Its numbers.
+    pub range: NumberRange,
+    /// How many combinations the ranges before it have: it has its next number after so many frames.
+    pub below: u64,
+}
+
+/// What was found in headers.
+#[derive(Drop, Debug)]
+pub struct Found {
+    /// The places of ranges.
+    pub slots: Vec<Slot>,
+    /// How many bits the headers have.
+    pub bits: usize,
+    /// How many combinations of numbers there are.
+    pub combinations: u64,
+}
+
+/// What is found in the objects of headers, whose headers are made.
+pub fn slots_of<'v>(alloc: Global, objects: &'v [Value]) -> Result<Found, Fault<'v>>
+    ensures { Tells found_view (after_headers_in 0 (map view objects.now) nothing) result }
+{
+    let mut found = Found {
+        slots: Vec::new(alloc),
+        bits: 0,
+        combinations: 1,
+    };
+    for (header, object) in objects.iter().enumerate() {
+        match after_header(found, alloc, header, object) {
+            Ok(more) => found = more,
+            Err(fault) => return Err(fault),
+        }
+    }
+    Ok(found)
+}
+
+/// .. and in one header more.
+fn after_header<'v>(
+    found: Found,
+    alloc: Global,
+    header: usize,
+    object: &'v Value,
+) -> Result<Found, Fault<'v>>
+    ensures { Tells found_view (after_section header (view object.now) (section_in_object (view object.now))
+        (found_view found)) result }
+{
+    match section_in(object) {
+        Ok(section) => after_fields(
+            found,
+            alloc,
+            header,
+            &lengths_of(object),
+            object,
+            section.fields(),
+        ),
+        Err(_) => Ok(found),
+    }
+}
+
+/// .. and in these fields.
+fn after_fields<'v>(
+    found: Found,
+    alloc: Global,
+    header: usize,
+    lengths: &Lengths,
+    object: &'v Value,
+    fields: &'static [Field],
+) -> Result<Found, Fault<'v>>
+    ensures { Tells found_view (after_fields_in header lengths.now (view object.now) (map field_view fields.now)
+        (found_view found)) result }
+{
+    let mut found = found;
+    for field in fields {
+        match after_field(found, alloc, header, lengths, object, field) {
+            Ok(more) => found = more,
+            Err(fault) => return Err(fault),
+        }
+    }
+    Ok(found)
+}
+
+/// .. and in one field more.
+fn after_field<'v>(
+    found: Found,
+    alloc: Global,
+    header: usize,
+    lengths: &Lengths,
+    object: &'v Value,
+    field: &'static Field,
+) -> Result<Found, Fault<'v>>
+    ensures { Tells found_view (after_field_in header lengths.now (view object.now) (field_view field.now)
+        (found_view found)) result }
+{
+    match field_found(found, alloc, lengths, object, field) {
+        Ok(Ok(found)) => Ok(found),
+        Ok(Err(reason)) => Err(Fault::Refused(Refusal {
+            header: Some(header),
+            member: field.name,
+            reason,
+        })),
+        Err(_) => Err(Fault::Memory),
+    }
+}
+
+/// .. or why it is refused.
+fn field_found(
+    found: Found,
+    alloc: Global,
+    lengths: &Lengths,
+    object: &Value,
+    field: &Field,
+) -> Result<Result<Found, Reason>, AllocError>
+    ensures { IfOk result (λ r. result_map found_view r
+        ≡ field_found_in lengths.now (view object.now) (field_view field.now)
+        (bits_of (Header lengths.now.sizes) field.now.extent) (found_view found)) }
+{
+    let Some(len) = len_of(field.extent, &lengths.sizes) else {
+        return Ok(Ok(found));
+    };
+    let spelled = part(lengths, field.number).unwrap_or(len);
+    match ranged(found, alloc, field.kind, spelled, given(object, field.name))? {
+        Ok(found) => Ok(Ok(longer(found, len)?)),
+        Err(reason) => Ok(Err(reason)),
+    }
+}
+
+/// What was found, with a field after it.
+fn longer(found: Found, len: usize) -> Result<Found, AllocError>
+    ensures { IfOk result (λ f. found_view f ≡ longer_in len (found_view found)) }
+{
+    match found.bits.checked_add(len) {
+        Some(bits) => Ok(Found {
+            slots: found.slots,
+            bits,
+            combinations: found.combinations,
+        }),
+        None => Err(AllocError),
+    }
+}
+
+/// What was found, with the range of a field if its value is one.
+fn ranged(
+    found: Found,
+    alloc: Global,
+    kind: Kind,
+    len: usize,
+    value: Option<&Value>,
+) -> Result<Result<Found, Reason>, AllocError>
+    ensures { IfOk result (λ r. result_map found_view r
+        ≡ ranged_in (found_view found) kind len (option_map (λ v. view v.now) value.entry)) }
+{
+    match value {
+        Some(value) if value.is_object() => {
+            let range = range_of(alloc, kind, len, value)?;
+            with_range(found, len, range)
+        }
+        _ => Ok(Ok(found)),
+    }
+}
+
+/// What was found, and a range.
+fn with_range(
+    found: Found,
+    len: usize,
+    range: Option<NumberRange>,
+) -> Result<Result<Found, Reason>, AllocError>
+    ensures { IfOk result (λ r. result_map found_view r ≡ with_range_in (found_view found) len range) }
+{
+    let Some(range) = range else {
+        return Ok(Err(Reason::NotARange));
+    };
+    let Some(combinations) = combined(found.combinations, &range) else {
+        return Ok(Err(Reason::TooMany));
+    };
+    let mut slots = found.slots;
+    slots.push(Slot {
+        at: found.bits,
+        len,
+        range,
+        below: found.combinations,
+    })?;
+    Ok(Ok(Found {
+        slots,
+        bits: found.bits,
+        combinations,
+    }))
+}
+
+/// The number of combinations with a range more, if it has 64 bits.
+fn combined(combinations: u64, range: &NumberRange) -> Option<u64>
+    ensures { result ≡ (if nat_lt (combinations * choices_in range.now) (2 ^ 64)
+        then Some (combinations * choices_in range.now) else None) }
+{
+    if range.is_random {
+        return Some(combinations);
+    }
+    let product = u128::from(combinations) * (u128::from(range.last) + 1);
+    u64::try_from(product).ok()
+}
