@@ -5,7 +5,7 @@
 
 A line has the function's name, the first sentence of its documentation, and each clause by its name: the clause itself if it is short, or else
 the definitions that it cites, with the first sentence of their comments. What many functions cite is in a table of words. The function is public if
-the root of its crate hands it on; of a program, those of its modules `program` and `laws` are taken. Prints nothing if the page has these lines,
+the root of its crate hands it on; of a program, those of its modules `program`, `input_files` and `laws` are taken. Prints nothing if the page has these lines,
 and README.md and the page cite contracts as they are in the sources; else what is wrong, and ends with status 1. With --set it first writes the
 lines to the page.
 """

@@ -11,7 +11,7 @@ import clauses  # noqa: E402
 NAME = r"[^\s(){}\[\],;.λ∀→=|]+"
 # Its functions are calls of others, which are proved and never run.
 WITHOUT = {"derived_traits"}
-OF_PROGRAM = {"laws", "program"}
+OF_PROGRAM = {"input_files", "laws", "program"}
 HANDED = re.compile(r"pub use ([\w:]+?)(?:::\{([^}]*)\}|::(\w+))?;")
 
 

@@ -140,6 +140,10 @@ FRAMES = [
     Frame("the last second with 32 bits", line(time="2106-02-07T06:28:15.999999999Z"), [""], 1, (4_294_967_295, 999_999_999)),
     Frame("bytes after the headers", line({**ETH, "type": 2048}, rest={"kind": "ether_type", "type": 2048, "bytes": "4500001C"}),
           [ADDRESSES + "0800" "4500001c"]),
+    Frame("bytes of a fault", line(ETH, fault={"start": 14, "closed": False, "kind": "length", "required": 4, "available": 1, "source": "slice", "value": None,
+                                               "bytes": "81"}), [ADDRESSES + "0000" "81"]),
+    Frame("a rest that is missing, and a fault", line(ETH, rest=None, fault={"bytes": ""}), [ADDRESSES + "0000"]),
+    Frame("reserved bits (IEEE 802.1AE, 9.7)", line(ETH, {"header": "macsec", "sl": 5, "reserved": 2}), [ADDRESSES + "88e5" "00" "85" "00000000" "0000"]),
     Frame("a rest without bytes", line(ETH, rest={"start": 14, "end": 60, "kind": "ether_type", "type": None}), [ADDRESSES + "0000"]),
     Frame("three lines, and one of them empty", line(ETH) + "\n" + line({"header": "eth", "type": 1}), [ADDRESSES + "0000", "00" * 12 + "0001"]),
     Frame("no line feed at the end", line(ETH).strip(), [ADDRESSES + "0000"]),
@@ -153,7 +157,14 @@ REFUSED = [
     Refused("no headers", "{}\n", "line 1: headers is missing"),
     Refused("headers that are no array", '{"headers":{}}\n', "line 1: headers is no array"),
     Refused("an unknown member", '{"headers":[],"head":1}\n', "line 1: head is no member of this object"),
-    Refused("a fault", '{"fault":{},"headers":[]}\n', "line 1: fault is no member of this object"),
+    Refused("a fault without bytes", '{"fault":{},"headers":[]}\n', "line 1: bytes is missing"),
+    Refused("a fault whose bytes are null", '{"fault":{"bytes":null},"headers":[]}\n', "line 1: bytes is missing"),
+    Refused("a fault that is no object", '{"fault":"45","headers":[]}\n', "line 1: fault is no object"),
+    Refused("a fault with the end of a rest", '{"fault":{"end":5,"bytes":"45"},"headers":[]}\n', "line 1: end is no member of this object"),
+    Refused("a fault whose bytes are no text", '{"fault":{"bytes":45},"headers":[]}\n', "line 1: bytes is no text"),
+    Refused("half a byte of a fault", '{"fault":{"bytes":"450"},"headers":[]}\n', "line 1: bytes spells no bytes"),
+    Refused("a rest and a fault", '{"rest":{"bytes":"45"},"fault":{"bytes":"45"},"headers":[]}\n', "line 1: fault is no member of this object"),
+    Refused("a fault and a rest", '{"fault":{"bytes":"45"},"rest":{},"headers":[]}\n', "line 1: fault is no member of this object"),
     Refused("the line's number counts empty lines", line(ETH) + "\n" + "x\n", "line 3: this is no JSON text", (ADDRESSES + "0000",)),
     Refused("nothing is read after a line that is refused", line(ETH) + "x\n" + line(ETH), "line 2: this is no JSON text", (ADDRESSES + "0000",)),
     Refused("no name of a header", line({"dst": "ff:ff:ff:ff:ff:ff"}), "line 1: header 0: header is missing"),
@@ -527,6 +538,53 @@ def printed_cases(program, capture):
         yield f"jq set tags, link type {link}", (len(frames_of(remade[0])), remade[0] != made_first), (len(lines), True)
 
 
+def packets_of(capture):
+    """The link type of a classic capture, and of each packet its time in nanoseconds and its bytes (draft-ietf-opsawg-pcap, sections 4 and 5)."""
+    order, unit = {bytes.fromhex("d4c3b2a1"): ("<", 1000), bytes.fromhex("4d3cb2a1"): ("<", 1), bytes.fromhex("a1b2c3d4"): (">", 1000)}[capture[:4]]
+    packets, at = [], 24
+    while at < len(capture):
+        seconds, fraction, length = struct.unpack_from(f"{order}III", capture, at)
+        packets.append((seconds * 10 ** 9 + fraction * unit, capture[at + 16:at + 16 + length]))
+        at += 16 + length
+    return struct.unpack_from(f"{order}I", capture, 20)[0] % 65536, packets
+
+
+def exact_captures():
+    """Captures whose packets have faults, padding, check sequences and reserved bits, or are cut."""
+    tags = bytes.fromhex("ffffffffffff 020000000001 88a8 a001 8100 0005 0800") + bytes(range(40))
+    sectag = bytes.fromhex("ffffffffffff 020000000001 88e5 2b c0 00000007 0200000000010001") + bytes(range(50))
+    arp = bytes.fromhex("ffffffffffff 020000000001 0806 0001 0800 06 04 0001 020000000001 0a000001 000000000000 0a000002") + bytes(18)
+    yield "tags that are cut", capture_of([tags[:end] for end in range(len(tags))], time=(1_700_000_000, 999_999_999))
+    yield "SecTags that are cut", capture_of([sectag[:end] for end in range(len(sectag))])
+    yield "ARP that is cut, and padding", capture_of([arp[:end] for end in range(len(arp) + 1)], time=(2 ** 32 - 1, 5))
+    yield "each second byte of a SecTag", capture_of([sectag[:14] + bytes([tci, sl]) + sectag[16:] for tci in (0, 0x20, 0x0C, 0x80) for sl in range(256)])
+    checked = capture_of([tags, arp, sectag, tags[:17]])
+    yield "check sequences", checked[:20] + struct.pack("<I", 0x24000001) + checked[24:]
+    yield "another link type", capture_of([b"\x45", b""], link=101)
+    cooked = bytes.fromhex("0004 0001 0006 0200000000010000 8100 0005 0806") + arp[14:]
+    yield "cooked capture v1", capture_of([cooked[:end] for end in range(len(cooked))] + [b"\0\x09" + cooked[2:], cooked[:2] + b"\3\x38" + cooked[4:]], link=113)
+    cooked = bytes.fromhex("8100 abcd 00000003 0001 02 06 0200000000010000 0005 0806") + arp[14:]
+    yield "cooked capture v2", capture_of([cooked[:end] for end in range(len(cooked))] + [cooked[:10] + b"\x09" + cooked[11:]], link=276)
+
+
+def exact_cases(program, capture):
+    """The lines of `--bytes` mean the packets again, byte for byte, at their times."""
+    if not os.path.exists(capture):
+        print("without ether_capture")
+        return
+    top = os.path.join(os.path.dirname(os.path.abspath(__file__)), "..")
+    with tempfile.TemporaryDirectory() as folder:
+        subprocess.run([sys.executable, os.path.join(top, "bench", "captures", "make.py"), folder, "0.3"], stdout=subprocess.DEVNULL, check=True)
+        drawn = []
+        for name in ("mixed.pcap", "small.pcap"):
+            with open(os.path.join(folder, name), "rb") as file:
+                drawn.append((name, file.read()))
+    for name, given in [*exact_captures(), *drawn]:
+        printed = subprocess.run([capture, "--format", "json", "--bytes"], input=given, capture_output=True, check=False).stdout
+        written, said, status = made(program, printed.decode())
+        yield f"byte for byte: {name}", (packets_of(written), said, status), (packets_of(given), "", 0)
+
+
 def main():
     words = argparse.ArgumentParser(description=__doc__, formatter_class=argparse.RawDescriptionHelpFormatter)
     words.add_argument("program", metavar="PROGRAM")
@@ -538,7 +596,7 @@ def main():
     capture = given.capture or next((it for it in built if os.path.exists(it)), built[0])
     cases = [*frame_cases(given.program), *memory_cases(given.program), *padded_cases(given.program), *checked_cases(given.program), *hex_cases(given.program), *refused_cases(given.program), *word_cases(given.program), *file_cases(given.program),
              *scapy_cases(given.program), *tshark_cases(given.program),
-             *printed_cases(given.program, capture), *range_cases(given.program), *sent_cases(given.program)]
+             *printed_cases(given.program, capture), *exact_cases(given.program, capture), *range_cases(given.program), *sent_cases(given.program)]
     return count((name, got, wanted) for name, got, wanted in cases if given.word in name)
 
 

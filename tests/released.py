@@ -74,7 +74,7 @@ def crates_in(packages):
 def check_licences(doc, package):
     """The list of a package of Debian, and for each crate in it a paragraph and the files of its licence."""
     crates = crates_in(check_list(package, read(glob.glob(f"{doc}/*.spdx.json")[0])))
-    wanted = {"arrayvec", "clap", "flate2", "hex", "nix", "signal-hook", "thiserror"} if package.startswith("ether-tools") else {"arrayvec"}
+    wanted = {"arrayvec", "clap", "flate2", "hex", "nix", "serde_json", "signal-hook", "thiserror"} if package.startswith("ether-tools") else {"arrayvec"}
     check(f"{package}, its crates", wanted <= {name for name, _ in crates}, crates)
     copyright_text = read(f"{doc}/copyright").decode()
     for name, version in crates:
@@ -92,7 +92,7 @@ def check_lists(dist):
     others = {name: sum for name, sum in sums.items() if not name.endswith(".spdx.json")}
     check("the list of the release", listed == others, sorted({*listed} ^ {*others}))
     crates = dict(crates_in(packages))
-    check("its crates", {"arrayvec", "clap", "clap_complete", "flate2", "hex", "nix", "signal-hook", "syn", "thiserror"} <= {*crates}, crates)
+    check("its crates", {"arrayvec", "clap", "clap_complete", "flate2", "hex", "nix", "serde_json", "signal-hook", "syn", "thiserror"} <= {*crates}, crates)
 
 
 def check_wheel(wheel):

@@ -40,12 +40,12 @@ plus-other : (b : Bool) → plus (not b) b ≡ true
 plus-other true = refl
 plus-other false = refl
 
-added-comm : (p q : List Bool) → added p q ≡ added q p
+pub added-comm : (p q : List Bool) → added p q ≡ added q p
 added-comm [] q = sym (added-nil q)
 added-comm (a ∷ p) [] = refl
 added-comm (a ∷ p) (b ∷ q) = ap (λ x. x ∷ added p q) (plus-comm a b) ∙ ap (λ l. plus b a ∷ l) (added-comm p q)
 
-added-assoc : (p q r : List Bool) → added (added p q) r ≡ added p (added q r)
+pub added-assoc : (p q r : List Bool) → added (added p q) r ≡ added p (added q r)
 added-assoc [] q r = refl
 added-assoc (a ∷ p) [] r = refl
 added-assoc (a ∷ p) (b ∷ q) [] = refl
@@ -275,7 +275,7 @@ length-sent [] = refl
 length-sent (b ∷ bytes) =
     omega (arith, length-append (low_bits 8 b) (sent bytes), length-low_bits 8 b, length-sent bytes)
 
-length-added : (p q : List Bool) → length p ≤ length q → length (added p q) ≡ length q
+pub length-added : (p q : List Bool) → length p ≤ length q → length (added p q) ≡ length q
 length-added [] q h = refl
 length-added (a ∷ p) [] h = absurd (omega (arith, h))
 length-added (a ∷ p) (b ∷ q) h = ap suc (length-added p q (omega (arith, h)))
@@ -322,11 +322,11 @@ length-received (a ∷ b ∷ c ∷ d ∷ e ∷ []) = omega arith
 length-received (a ∷ b ∷ c ∷ d ∷ e ∷ f ∷ []) = omega arith
 length-received (a ∷ b ∷ c ∷ d ∷ e ∷ f ∷ g ∷ []) = omega arith
 
-length-generator : length generator ≡ 32
+pub length-generator : length generator ≡ 32
 unfolding bits
 length-generator = refl
 
-length-divided : (n : ℕ) (p : List Bool) → n + 32 ≤ length p → length (divided n p) ≡ length p - n
+pub length-divided : (n : ℕ) (p : List Bool) → n + 32 ≤ length p → length (divided n p) ≡ length p - n
 unfolding divided
 length-divided zero p h = omega arith
 length-divided (suc n) [] h = absurd (omega (arith, h))

@@ -56,3 +56,10 @@ frame-time_fault d bytes link (faults.Refused r) known made linked h =
     ∙ ap (λ b. framed b (link_told d) (time_told d)) made ∙ ap (λ l. framed (Ok bytes) l (time_told d)) linked
     ∙ ap (λ t. framed (Ok bytes) (Ok link) t) h
 frame-time_fault d bytes link faults.Memory known made linked h = tt
+
+pub frame-made : (d : Data) (bytes : List ℕ) (link : ℕ) (t : Time) → unknown_member frame_names d ≡ None
+    → frame_bytes d ≡ Ok bytes → link_told d ≡ Ok link → time_told d ≡ Ok t
+    → frame_meaning d ≡ Ok (record { link = link; time = t; packet = bytes })
+frame-made d bytes link t known made linked timed =
+    ap (λ u. unless_unknown None u (framed (frame_bytes d) (link_told d) (time_told d))) known
+    ∙ (λ i. framed (made i) (linked i) (timed i))

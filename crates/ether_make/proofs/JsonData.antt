@@ -17,7 +17,7 @@ use Rattle.serde_json.specs.Read.{number_of, number_from, float_of, of_json, of_
 use Rattle.ether_format.specs.declared.moment.Moment.{Moment}
 use Rattle.ether_format.specs.Members.{Value, Nothing, Number, Protocol, Flag, Bytes, Dotted, Word, Text, Time, Within, Member}
 use Rattle.ether_format.specs.Spelling.{nine_digits, dated_text, seconds_text, has_date}
-use Rattle.ether_format.specs.Told.{Told, told_members}
+use Rattle.ether_format.specs.Told.{Told}
 use Rattle.ether_make.specs.PacketData.{seconds_parts, moment_data, value_data, members_into, members_data, headers_data}
 use Rattle.ether_make.specs.PacketJson.{moment_json, value_json, members_before, members_json, headers_json}
 use Rattle.ether_make.proofs.FloatLemmas.{round_finite}
@@ -114,8 +114,9 @@ members_read (m ∷ ms) rest found h =
 pub object_read : (ms : List Member) → Each FitsMember ms → of_json (members_json ms) ≡ Some (members_data ms)
 object_read ms h = ap (option_map object) (members_read ms json.no_members no_members h)
 
-pub headers_read : (hs : List Told) → FitHeaders hs → of_items (headers_json hs) ≡ Some (headers_data hs)
-headers_read [] h = refl
-headers_read (x ∷ hs) h =
-    ap (option_and_then (λ d. option_map (item d) (of_items (headers_json hs)))) (object_read (told_members x) h.0)
-    ∙ ap (option_map (item (members_data (told_members x)))) (headers_read hs h.1)
+pub headers_read : (f : Told → List Member) (hs : List Told) → FitHeaders f hs
+    → of_items (headers_json f hs) ≡ Some (headers_data f hs)
+headers_read f [] h = refl
+headers_read f (x ∷ hs) h =
+    ap (option_and_then (λ d. option_map (item d) (of_items (headers_json f hs)))) (object_read (f x) h.0)
+    ∙ ap (option_map (item (members_data (f x)))) (headers_read f hs h.1)

@@ -8,8 +8,8 @@ use Rattle.ether_format.specs.Members.{Value, Nothing, Number, Protocol, Flag, B
 use Rattle.ether_pcap.specs.Capture.{PacketValue}
 use Rattle.ether_fields.specs.Fields.{section_name}
 use Rattle.ether_format.specs.declared.end.End.{End}
-use Rattle.ether_format.specs.Told.{Told, told_members, end_section, end_members}
-use Rattle.ether_make.specs.PacketJson.{value_json, members_before, members_json, headers_json, packet_json}
+use Rattle.ether_format.specs.Told.{Told, end_section}
+use Rattle.ether_make.specs.PacketJson.{value_json, members_before, members_json, headers_json, packet_json_of}
 
 flat_if : (t : Bool) (a b : List ℕ) → depth (cond t (string a) (number b)) ≡ 0
 flat_if true a b = refl
@@ -34,14 +34,15 @@ before_depth (m ∷ ms) rest = omega (arith, value_flat m.value, before_depth ms
 object_depth : (ms : List Member) → depth (members_json ms) ≤ 1
 object_depth ms = omega (arith, before_depth ms no_members)
 
-headers_depth : (hs : List Told) → items_depth (headers_json hs) ≤ 1
-headers_depth [] = omega arith
-headers_depth (h ∷ hs) = omega (arith, object_depth (told_members h), headers_depth hs)
+headers_depth : (f : Told → List Member) (hs : List Told) → items_depth (headers_json f hs) ≤ 1
+headers_depth f [] = omega arith
+headers_depth f (h ∷ hs) = omega (arith, object_depth (f h), headers_depth f hs)
 
-pub packet_depth : (origin : OriginValue) (p : PacketValue) (moment : Option Moment) (hs : List Told) (end : End)
-    → depth (packet_json origin p moment hs end) ≤ 3
-packet_depth origin p moment hs end =
-    let last : Members = member (section_name (end_section end)) (members_json (end_members end)) no_members in
-    let others : Members = member (codes "headers") (array (headers_json hs)) last in
+pub packet_depth : (f : Told → List Member) (last : List Member) (origin : OriginValue) (p : PacketValue)
+    (moment : Option Moment) (hs : List Told) (end : End)
+    → depth (packet_json_of f last origin p moment hs end) ≤ 3
+packet_depth f last origin p moment hs end =
+    let ending : Members = member (section_name (end_section end)) (members_json last) no_members in
+    let others : Members = member (codes "headers") (array (headers_json f hs)) ending in
     let first = before_depth (packet_members origin p moment) others in
-    omega (arith, first, headers_depth hs, object_depth (end_members end))
+    omega (arith, first, headers_depth f hs, object_depth last)

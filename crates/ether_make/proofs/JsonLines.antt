@@ -10,8 +10,8 @@ use Rattle.json.specs.Json.{Json, object, array, Items, Members, no_members}
 use Rattle.json.specs.Json as json
 use Rattle.ether_format.specs.Members.{Member}
 use Rattle.ether_format.specs.Spelling.{json_value, quoted}
-use Rattle.ether_format.specs.Json.{json_member, json_members, json_object, json_objects}
-use Rattle.ether_format.specs.Told.{Told, told_members}
+use Rattle.ether_format.specs.Json.{json_member, json_members, json_object, objects_of}
+use Rattle.ether_format.specs.Told.{Told}
 use Rattle.ether_make.specs.PacketJson.{value_json, members_before, members_json, headers_json}
 use Rattle.ether_make.proofs.JsonFits.{Each, ArePlain, FitsMember}
 use Rattle.ether_make.proofs.JsonLexemes.{lexemes, items_lexemes, more_items, members_lexemes, more_members, Spells}
@@ -106,86 +106,89 @@ lex-headers_key r = refl
 
 -- ---- headers, and the whole line
 
-abbrev later_headers : List Told → List ℕ
-later_headers hs = flat_map (λ k. codes "," ++ json_object (told_members k)) hs
+abbrev later_headers : (Told → List Member) → List Told → List ℕ
+later_headers f hs = flat_map (λ k. codes "," ++ json_object (f k)) hs
 
-abbrev pub FitHeaders : List Told → Type 0
-FitHeaders hs = Each (λ h. Each FitsMember (told_members h)) hs
+abbrev pub FitHeaders : (Told → List Member) → List Told → Type 0
+FitHeaders f hs = Each (λ h. Each FitsMember (f h)) hs
 
-later_headers_end : (hs : List Told) (r : List ℕ) → ends_word (later_headers hs ++ (93 ∷ r)) ≡ true
-later_headers_end [] r = refl
-later_headers_end (h ∷ hs) r = refl
+later_headers_end : (f : Told → List Member) (hs : List Told) (r : List ℕ)
+    → ends_word (later_headers f hs ++ (93 ∷ r)) ≡ true
+later_headers_end f [] r = refl
+later_headers_end f (h ∷ hs) r = refl
 
-lex-later_headers : (hs : List Told) → FitHeaders hs → (r : List ℕ)
-    → lex between (later_headers hs ++ (93 ∷ r)) ≡ more_items (headers_json hs) ++ lex between r
+lex-later_headers : (f : Told → List Member) (hs : List Told) → FitHeaders f hs → (r : List ℕ)
+    → lex between (later_headers f hs ++ (93 ∷ r)) ≡ more_items (headers_json f hs) ++ lex between r
 unfolding lex
-lex-later_headers [] fits r = refl
-lex-later_headers (h ∷ hs) fits r =
-    let first = told_members h in
-    ap (λ l. comma ∷ lex between l) (append_assoc (json_object first) (later_headers hs) (93 ∷ r))
-    ∙ ap (λ l. comma ∷ l) (Spells-object first fits.0 (later_headers hs ++ (93 ∷ r)) (later_headers_end hs r))
-    ∙ ap (λ l. comma ∷ (lexemes (members_json first) ++ l)) (lex-later_headers hs fits.1 r)
-    ∙ ap (λ l. comma ∷ l) (sym (append_assoc (lexemes (members_json first)) (more_items (headers_json hs)) _))
+lex-later_headers f [] fits r = refl
+lex-later_headers f (h ∷ hs) fits r =
+    let first = f h in
+    ap (λ l. comma ∷ lex between l) (append_assoc (json_object first) (later_headers f hs) (93 ∷ r))
+    ∙ ap (λ l. comma ∷ l) (Spells-object first fits.0 (later_headers f hs ++ (93 ∷ r)) (later_headers_end f hs r))
+    ∙ ap (λ l. comma ∷ (lexemes (members_json first) ++ l)) (lex-later_headers f hs fits.1 r)
+    ∙ ap (λ l. comma ∷ l) (sym (append_assoc (lexemes (members_json first)) (more_items (headers_json f hs)) _))
 
-lex-headers : (hs : List Told) → FitHeaders hs → (r : List ℕ)
-    → lex between (json_objects hs ++ (93 ∷ r)) ≡ items_lexemes (headers_json hs) ++ lex between r
+lex-headers : (f : Told → List Member) (hs : List Told) → FitHeaders f hs → (r : List ℕ)
+    → lex between (objects_of f hs ++ (93 ∷ r)) ≡ items_lexemes (headers_json f hs) ++ lex between r
 unfolding lex
-lex-headers [] fits r = refl
-lex-headers (h ∷ hs) fits r =
-    let first = told_members h in
-    ap (lex between) (append_assoc (json_object first) (later_headers hs) (93 ∷ r))
-    ∙ Spells-object first fits.0 (later_headers hs ++ (93 ∷ r)) (later_headers_end hs r)
-    ∙ ap (λ l. lexemes (members_json first) ++ l) (lex-later_headers hs fits.1 r)
-    ∙ sym (append_assoc (lexemes (members_json first)) (more_items (headers_json hs)) _)
+lex-headers f [] fits r = refl
+lex-headers f (h ∷ hs) fits r =
+    let first = f h in
+    ap (lex between) (append_assoc (json_object first) (later_headers f hs) (93 ∷ r))
+    ∙ Spells-object first fits.0 (later_headers f hs ++ (93 ∷ r)) (later_headers_end f hs r)
+    ∙ ap (λ l. lexemes (members_json first) ++ l) (lex-later_headers f hs fits.1 r)
+    ∙ sym (append_assoc (lexemes (members_json first)) (more_items (headers_json f hs)) _)
 
-module _ (hs : List Told) (name : List ℕ) (end : List Member) where
+module _ (f : Told → List Member) (hs : List Told) (name : List ℕ) (end : List Member) where
   -- what follows the members of the packet
   abbrev others : Members
-  others = json.member (codes "headers") (array (headers_json hs)) (json.member name (members_json end) no_members)
+  others = json.member (codes "headers") (array (headers_json f hs)) (json.member name (members_json end) no_members)
 
   abbrev others_text : List ℕ → List ℕ
-  others_text r = codes ",\"headers\":[" ++ (json_objects hs ++ (93 ∷ after_headers name end r))
+  others_text r = codes ",\"headers\":[" ++ (objects_of f hs ++ (93 ∷ after_headers name end r))
 
   others_append : (r : List ℕ) → others_text [] ++ r ≡ others_text r
   others_append r = simp append_assoc
 
-  module _ (fit_headers : FitHeaders hs) (plain : ArePlain name) (fit_end : Each FitsMember end) where
+  module _ (fit_headers : FitHeaders f hs) (plain : ArePlain name) (fit_end : Each FitsMember end) where
     Goes-others : (r : List ℕ) → Goes others (others_text r) (lex between r)
     Goes-others r =
-        let items = headers_json hs in
+        let items = headers_json f hs in
         let last = json.member name (members_json end) no_members in
         record {
           ended = refl;
           is = lex-headers_key _
               ∙ ap (λ ls. comma ∷ token (tokens_of.string (codes "headers")) ∷ colon ∷ token begin_array ∷ ls)
-              (lex-headers hs fit_headers (after_headers name end r)
+              (lex-headers f hs fit_headers (after_headers name end r)
               ∙ ap (λ ls. items_lexemes items ++ ls) (lex-after_headers name end r plain fit_end)
               ∙ sym (append_assoc (items_lexemes items) (more_members last) (lex between r)));
         }
 
 -- a line without its line feed
-unfoldable pub line_of : (packet : List Member) → List Told → (name : List ℕ) → (end : List Member) → List ℕ
-line_of packet hs name end =
+unfoldable pub line_of : (f : Told → List Member) → (packet : List Member) → List Told → (name : List ℕ)
+    → (end : List Member) → List ℕ
+line_of f packet hs name end =
     codes "{"
-    ++ (json_members packet ++ (codes ",\"headers\":[" ++ (json_objects hs ++ (93 ∷ after_headers name end []))))
+    ++ (json_members packet ++ (codes ",\"headers\":[" ++ (objects_of f hs ++ (93 ∷ after_headers name end []))))
 
 -- .. and with it
-pub line_feed : (packet : List Member) (hs : List Told) (name : List ℕ) (end : List Member)
-    → (codes "{" ++ (json_members packet ++ codes ",\"headers\":[")) ++ (json_objects hs
+pub line_feed : (f : Told → List Member) (packet : List Member) (hs : List Told) (name : List ℕ) (end : List Member)
+    → (codes "{" ++ (json_members packet ++ codes ",\"headers\":[")) ++ (objects_of f hs
     ++ (codes "]," ++ (quoted name ++ (codes ":" ++ (json_object end ++ codes "}\n")))))
-    ≡ line_of packet hs name end ++ codes "\n"
+    ≡ line_of f packet hs name end ++ codes "\n"
 unfolding line_of
-line_feed packet hs name end = simp append_assoc
+line_feed f packet hs name end = simp append_assoc
 
-pub Spells-line : (packet : List Member) (hs : List Told) (name : List ℕ) (end : List Member) → 0 < length packet
-    → Each FitsMember packet → FitHeaders hs → ArePlain name → Each FitsMember end
-    → Spells (line_of packet hs name end) (object (members_before packet (others hs name end)))
+pub Spells-line : (f : Told → List Member) (packet : List Member) (hs : List Told) (name : List ℕ)
+    (end : List Member) → 0 < length packet
+    → Each FitsMember packet → FitHeaders f hs → ArePlain name → Each FitsMember end
+    → Spells (line_of f packet hs name end) (object (members_before packet (others f hs name end)))
 unfolding line_of lex
-Spells-line [] hs name end some fits fit_headers plain fit_end = absurd (omega arith)
-Spells-line (m ∷ ms) hs name end some fits fit_headers plain fit_end = λ r ended.
+Spells-line f [] hs name end some fits fit_headers plain fit_end = absurd (omega arith)
+Spells-line f (m ∷ ms) hs name end some fits fit_headers plain fit_end = λ r ended.
     ap (λ l. lex between (123 ∷ l))
-    (append_assoc (json_members (m ∷ ms)) (others_text hs name end []) r
-    ∙ ap (λ l. json_members (m ∷ ms) ++ l) (others_append hs name end r))
+    (append_assoc (json_members (m ∷ ms)) (others_text f hs name end []) r
+    ∙ ap (λ l. json_members (m ∷ ms) ++ l) (others_append f hs name end r))
     ∙ ap (λ ls. token begin_object ∷ ls)
-    (lex-members m ms fits (others hs name end) (others_text hs name end r) (lex between r)
-    (Goes-others hs name end fit_headers plain fit_end r))
+    (lex-members m ms fits (others f hs name end) (others_text f hs name end r) (lex between r)
+    (Goes-others f hs name end fit_headers plain fit_end r))

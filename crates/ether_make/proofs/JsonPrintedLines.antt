@@ -5,8 +5,8 @@ use Rattle.std.specs.List.{flat_map}
 use Rattle.ether_format.specs.declared.moment.Moment.{Moment}
 use Rattle.ether_format.specs.Members.{Value, Nothing, Number, Protocol, Flag, Bytes, Dotted, Word, Text, Time, Within, Member}
 use Rattle.ether_format.specs.Spelling.{colon_text, dotted_text, dated_text, seconds_text, has_date, json_moment, json_value, flag_text, quoted}
-use Rattle.ether_format.specs.Json.{json_member, json_members, json_object, json_objects}
-use Rattle.ether_format.specs.Told.{Told, told_members}
+use Rattle.ether_format.specs.Json.{json_member, json_members, json_object, objects_of}
+use Rattle.ether_format.specs.Told.{Told}
 use Rattle.ether_make.proofs.JsonFits.{Each, ArePlain, FitsMoment, FitsValue, FitsMember}
 use Rattle.ether_make.proofs.JsonLines.{FitHeaders, line_of}
 use Rattle.ether_make.proofs.JsonPrinted.{IsPrinted, IsPrinted-nil, IsPrinted-append, IsPrinted-ascii, IsPrinted-plain, IsPrinted-quoted, IsPrinted-json_text}
@@ -67,22 +67,22 @@ object_printed ms h =
     IsPrinted-append (codes "{") _ (IsPrinted-ascii (codes "{") refl)
     (IsPrinted-append (json_members ms) _ (members_printed ms h) (IsPrinted-ascii (codes "}") refl))
 
-objects_printed : (hs : List Told) → FitHeaders hs → IsPrinted (json_objects hs)
-objects_printed [] h = IsPrinted-nil
-objects_printed (x ∷ hs) h =
-    IsPrinted-append (json_object (told_members x)) _ (object_printed (told_members x) h.0)
-    (later_printed (λ k. json_object (told_members k)) (λ k. Each FitsMember (told_members k))
-    (λ k fit. object_printed (told_members k) fit) hs h.1)
+objects_printed : (f : Told → List Member) (hs : List Told) → FitHeaders f hs → IsPrinted (objects_of f hs)
+objects_printed f [] h = IsPrinted-nil
+objects_printed f (x ∷ hs) h =
+    IsPrinted-append (json_object (f x)) _ (object_printed (f x) h.0)
+    (later_printed (λ k. json_object (f k)) (λ k. Each FitsMember (f k)) (λ k fit. object_printed (f k) fit) hs h.1)
 
-pub IsPrinted-line : (packet : List Member) (hs : List Told) (name : List ℕ) (end : List Member)
-    → Each FitsMember packet → FitHeaders hs → ArePlain name → Each FitsMember end
-    → IsPrinted (line_of packet hs name end)
+pub IsPrinted-line : (f : Told → List Member) (packet : List Member) (hs : List Told) (name : List ℕ)
+    (end : List Member)
+    → Each FitsMember packet → FitHeaders f hs → ArePlain name → Each FitsMember end
+    → IsPrinted (line_of f packet hs name end)
 unfolding line_of
-IsPrinted-line packet hs name end fit_packet fit_headers plain fit_end =
+IsPrinted-line f packet hs name end fit_packet fit_headers plain fit_end =
     IsPrinted-append (codes "{") _ (IsPrinted-ascii (codes "{") refl)
     (IsPrinted-append (json_members packet) _ (members_printed packet fit_packet)
     (IsPrinted-append (codes ",\"headers\":[") _ (IsPrinted-ascii (codes ",\"headers\":[") refl)
-    (IsPrinted-append (json_objects hs) _ (objects_printed hs fit_headers)
+    (IsPrinted-append (objects_of f hs) _ (objects_printed f hs fit_headers)
     (IsPrinted-append (codes "],") _ (IsPrinted-ascii (codes "],") refl)
     (IsPrinted-append (quoted name) _ (plain_text name plain)
     (IsPrinted-append (codes ":") _ (IsPrinted-ascii (codes ":") refl)

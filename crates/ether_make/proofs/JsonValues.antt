@@ -36,7 +36,7 @@ ArePlain-decimal n h =
 glyph_plain : (d : ℕ) → d < 16 → IsPlainByte (digit_glyph false d)
 glyph_plain d h = (grind arith, grind arith, λ e. grind arith, λ e. grind arith)
 
-ArePlain-hex_byte : (b : ℕ) → b < 256 → ArePlain (hex_byte false b)
+pub ArePlain-hex_byte : (b : ℕ) → b < 256 → ArePlain (hex_byte false b)
 ArePlain-hex_byte b h =
     ArePlain-cons _ _ (glyph_plain (b / 16) (omega arith))
     (ArePlain-cons _ _ (glyph_plain (b % 16) (omega arith)) ArePlain-nil)

@@ -6,9 +6,11 @@ pub mod FrameLemmas
 pub mod LineLemmas
 pub mod CaptureLemmas
 pub mod CheckLemmas
+pub mod DivisionLemmas
 pub mod OutputLemmas
 pub mod ReadLemmas
 pub mod ProgramLemmas
+pub mod FileLemmas
 pub mod OptionTableLemmas
 pub mod OptionsLemmas
 pub mod WrongWordLemmas
@@ -24,6 +26,7 @@ pub mod JsonPrintedLines
 pub mod FloatLemmas
 pub mod JsonData
 pub mod PacketFits
+pub mod ExactFits
 pub mod TellsFits
 pub mod ContentFits
 pub mod PacketLines
@@ -42,4 +45,10 @@ pub mod SecTagBack
 pub mod FramesBack
 pub mod StacksBack
 pub mod PacketsBack
+pub mod ExactTags
+pub mod ExactStacks
+pub mod ExactBack
+pub mod TimesBack
+pub mod ExactPackets
 pub mod PacketExamples
+pub mod OneFrame

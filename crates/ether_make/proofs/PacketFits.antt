@@ -27,7 +27,7 @@ use Rattle.ether_format.specs.declared.cause.Cause.TheVariants as causes
 use Rattle.ether_format.specs.declared.end.End.{End}
 use Rattle.ether_format.specs.declared.end.End.TheVariants.{Rest, Skipped, Fault}
 use Rattle.ether_format.specs.declared.place.Place.{Place}
-use Rattle.ether_format.specs.Members.{Value, Bytes, Dotted, if_some, members, payload_word, payload_type_value, linux_sll2_values}
+use Rattle.ether_format.specs.Members.{Member, Value, Bytes, Dotted, if_some, members, payload_word, payload_type_value, linux_sll2_values}
 use Rattle.ether_format.specs.Told.{Told, Walked, CookedV2, told_section, told_place, told_place_values, told_values, place_values, told_members, own_values, header_values, end_section, end_values, end_members, kind_word, kind_value, protocol_word, protocol_value, cause_source}
 use Rattle.ether_make.proofs.JsonFits.{Each, IsPlainByte, ArePlain, FitsValue, FitsMember}
 use Rattle.ether_make.proofs.JsonLines.{FitHeaders}
@@ -269,9 +269,10 @@ told_fits h fits =
     (told_place_fits h fits))
     (own_fits h fits))
 
-pub headers_fit : (hs : List Told) → Each FitsTold hs → FitHeaders hs
-headers_fit [] h = tt
-headers_fit (x ∷ hs) h = (told_fits x h.0, headers_fit hs h.1)
+pub headers_fit : (f : Told → List Member) → ((h : Told) → FitsTold h → Each FitsMember (f h)) → (hs : List Told)
+    → Each FitsTold hs → FitHeaders f hs
+headers_fit f one [] h = tt
+headers_fit f one (x ∷ hs) h = (one x h.0, headers_fit f one hs h.1)
 
 -- ---- the end
 

@@ -27,9 +27,11 @@ use Rattle.ether_format.specs.Told.{Told, Tells, TellsWalk, told_end, told_stack
 use Rattle.ether_make.specs.FrameLaws.{IsRemade, TellsRemade, LinesMakeFrames, is_sec_tag, told_bytes, walked}
 use Rattle.ether_make.specs.Frames.{frame_bytes}
 use Rattle.ether_make.specs.PacketData.{packet_data}
+use Rattle.ether_make.proofs.ExactPackets.{frames_are_exact, frames_are_one}
+use Rattle.ether_make.proofs.OneFrame.{one_frame}
 use Rattle.ether_make.proofs.JsonFits.{Each}
 use Rattle.ether_make.proofs.FramesBack.{BeginsLink, IsMade, frame_back}
-use Rattle.ether_make.proofs.StacksBack.{all_made, remade}
+use Rattle.ether_make.proofs.StacksBack.{IsNoTag, all_made, no_tags, one_bytes, remade}
 
 each_remade : (hs : List Told) → All IsRemade hs → Each IsRemade hs
 each_remade [] h = tt
@@ -140,9 +142,10 @@ module _ (p : PacketValue) (limit : Option ℕ) (told : List Told) (start finish
       let t = the_walk r in
       let frame = without_fcs p in
       let inside : IsIn frame w = record { ordered = omega arith; inside = omega arith } in
-      let none : list_any is_sec_tag (told_stack 0 frame w t.headers) ≡ false =
-      ap (list_any is_sec_tag) (sym t.is_told) ∙ plain in
-      let back = remade 0 frame ok (starts kinds.Ethernet2 limit) w t.headers t.ending inside none t.walk in
+      let none : Each IsNoTag (told_stack 0 frame w t.headers) =
+      no_tags _ (ap (list_any is_sec_tag) (sym t.is_told) ∙ plain) in
+      let back = remade 0 frame told_bytes IsNoTag (one_bytes 0 frame ok) (starts kinds.Ethernet2 limit) w t.headers
+      t.ending inside none t.walk in
       let at : start ≡ (last_window t.ending).start = is_start t.ending t.is_end in
       let same : start - 0 ≡ start = omega arith in
       let within : start ≤ whole_len p = omega (arith, at, back.inside, length-take (whole_len p) p.packet) in
@@ -192,4 +195,7 @@ lines_make_frames = record {
       bytes_back p limit told start finish kind accepted fits.bytes r plain;
   cleared = λ limit origin p told start finish kind accepted fits r.
       cleared_back p limit told start finish kind accepted fits.bytes r;
+  exact = frames_are_exact;
+  one = frames_are_one;
+  frames = one_frame;
 }

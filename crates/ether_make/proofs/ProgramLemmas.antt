@@ -7,13 +7,13 @@ use Rattle.std.specs.Io.KnownBytes.{Appends, Consumes, IsAtEnd}
 use Rattle.std.specs.Io.{StopsAt}
 use Rattle.ether_make.specs.Captures.{Ends, Grows}
 use Rattle.ether_make.specs.Frames.{FrameValue}
-use Rattle.ether_make.specs.Outputs.{IsBegunAs, IsOutput, IsOutputBegun, IsWrittenAs, finished}
+use Rattle.ether_make.specs.Outputs.{IsBegunAs, IsOutputBegun, IsWrittenAs, finished}
 use Rattle.ether_make.specs.declared.settings.Settings.{Settings}
 use Rattle.ether_make.specs.declared.series.Series.{Series}
 use Rattle.ether_make.specs.Lines.{LineMeans, LineRefusal, LinesMean, Progress, Refuses, all_linked, beginning, linked, frames_of, lines_in, longest}
 use Rattle.ether_make.specs.Lines as meant
 use Rattle.ether_make.specs.LineViews.{IfTold, fault_view}
-use Rattle.ether_make.specs.Program.{Ran, HasMade, HasBroken, AfterLine, AfterFault, ReadsLine, TakesLine, RefusesLine, AfterTaking, Continues, line_end}
+use Rattle.ether_make.specs.Program.{Ran, HasMade, HasBroken, AfterLine, AfterFault, ReadsLine, TakesLine, RefusesLine, AfterTaking, Continues, IsWhole, line_end}
 use Rattle.ether_make.specs.Program as takes
 use Rattle.ether_make.specs.Serial.{IsSeriesOf, after_series, series_frames}
 use Rattle.ether_make.specs.declared.lines.Stop.{Stop}
@@ -27,8 +27,9 @@ use Rattle.ether_make.proofs.LineLemmas.{line-fits, lines-ended, lines-last, pad
 abbrev pub Means : Settings → (first : Progress) → (number : ℕ) → Progress → (text : List ℕ)
     → (frames : List FrameValue) → Type 0
 Means settings first number progress text frames = (later : List ℕ) (more : List FrameValue)
-    (stop : Option (ℕ × LineRefusal)) → LinesMean settings number progress (lines_in later) more stop
-    → LinesMean settings 1 first (lines_in (text ++ later)) (frames ++ more) stop
+    (stop : Option (ℕ × LineRefusal)) (last : Progress)
+    → LinesMean settings number progress last (lines_in later) more stop
+    → LinesMean settings 1 first last (lines_in (text ++ later)) (frames ++ more) stop
 
 -- all lines before the one with this number are read, made and written
 pub record Doing (settings : Settings) (first : Progress) (before now held holds : Option (List ℕ)) (number : ℕ)
@@ -38,7 +39,7 @@ pub record Doing (settings : Settings) (first : Progress) (before now held holds
   pub frames : List FrameValue
   pub bytes : List ℕ
   pub read : Consumes before now text
-  pub begun : Continues settings first.link progress.link frames bytes
+  pub begun : Continues settings first progress progress frames bytes
   pub written : Appends held holds bytes
   pub means : Means settings first number progress text frames
 
@@ -54,61 +55,58 @@ same_written held mid holds bytes a b =
     subst (λ (bs : List ℕ). Appends held holds bs) (append-nil bytes) (Appends-trans held mid holds bytes [] a b)
 
 -- what lines mean after an empty one
-empty_means : (settings : Settings) (number : ℕ) (progress : Progress) (line : List ℕ) (lines : List (List ℕ))
+empty_means : (settings : Settings) (number : ℕ) (progress last : Progress) (line : List ℕ) (lines : List (List ℕ))
     (more : List FrameValue) (stop : Option (ℕ × LineRefusal)) → length line ≡ 0
-    → LinesMean settings (number + 1) progress lines more stop
-    → LinesMean settings number progress (line ∷ lines) more stop
-empty_means settings number progress line lines more stop e h =
-    subst (λ (l : List ℕ). LinesMean settings number progress (l ∷ lines) more stop) (sym (is_empty line e))
-    (meant.empty number progress lines more stop h)
+    → LinesMean settings (number + 1) progress last lines more stop
+    → LinesMean settings number progress last (line ∷ lines) more stop
+empty_means settings number progress last line lines more stop e h =
+    subst (λ (l : List ℕ). LinesMean settings number progress last (l ∷ lines) more stop) (sym (is_empty line e))
+    (meant.empty number progress last lines more stop h)
 
 whole_text : (text line later : List ℕ) → text ++ (line ++ 10 ∷ later) ≡ (text ++ (line ++ 10 ∷ [])) ++ later
 whole_text text line later =
     ap (λ l. text ++ l) (sym (append_assoc line (10 ∷ []) later)) ∙ sym (append_assoc text (line ++ 10 ∷ []) later)
 
 ended_means : (settings : Settings) (first : Progress) (number after : ℕ) (progress next : Progress)
-    (text line : List ℕ)
-    (frames new : List FrameValue) → All (λ c. c ≢ 10) line → Means settings first number progress text frames
-    → ((lines : List (List ℕ)) (more : List FrameValue) (stop : Option (ℕ × LineRefusal))
-    → LinesMean settings after next lines more stop
-    → LinesMean settings number progress (line ∷ lines) (new ++ more) stop)
+    (text line : List ℕ) (frames new : List FrameValue) → All (λ c. c ≢ 10) line
+    → Means settings first number progress text frames
+    → ((lines : List (List ℕ)) (more : List FrameValue) (stop : Option (ℕ × LineRefusal)) (last : Progress)
+    → LinesMean settings after next last lines more stop
+    → LinesMean settings number progress last (line ∷ lines) (new ++ more) stop)
     → Means settings first after next (text ++ (line ++ 10 ∷ [])) (frames ++ new)
-ended_means settings first number after progress next text line frames new one means step later more stop h =
-    let Whole = LinesMean settings 1 first in
+ended_means settings first number after progress next text line frames new one means step later more stop last h =
+    let Whole = LinesMean settings 1 first last in
     subst (λ (t : List ℕ). Whole (lines_in t) ((frames ++ new) ++ more) stop) (whole_text text line later)
     (subst (λ (fs : List FrameValue). Whole (lines_in (text ++ (line ++ 10 ∷ later))) fs stop)
     (sym (append_assoc frames new more))
-    (means (line ++ 10 ∷ later) (new ++ more) stop
-    (subst (λ (ls : List (List ℕ)). LinesMean settings number progress ls (new ++ more) stop)
+    (means (line ++ 10 ∷ later) (new ++ more) stop last
+    (subst (λ (ls : List (List ℕ)). LinesMean settings number progress last ls (new ++ more) stop)
     (sym (lines-ended line later one))
-    (step (lines_in later) more stop h))))
+    (step (lines_in later) more stop last h))))
 
-linked-append : (link : Option ℕ) (frames new : List FrameValue)
-    → all_linked (all_linked link frames) new ≡ all_linked link (frames ++ new)
-linked-append link [] new = refl
-linked-append link (f ∷ frames) new = linked-append (linked link f) frames new
-
-continues-nothing : (settings : Settings) (link : Option ℕ) → Continues settings link link [] []
-continues-nothing settings link = record {
-  is_linked = refl;
+pub continues-nothing : (settings : Settings) (progress : Progress)
+    → Continues settings progress progress progress [] []
+continues-nothing settings progress = record {
+  is_last = refl;
   begun = λ earlier front h.
-      subst (λ (fs : List FrameValue). IsOutputBegun settings link fs (front ++ [])) (sym (append-nil earlier))
-      (subst (λ (bs : List ℕ). IsOutputBegun settings link earlier bs) (sym (append-nil front)) h);
+      subst (λ (fs : List FrameValue). IsOutputBegun settings progress.link fs (front
+      ++ [])) (sym (append-nil earlier))
+      (subst (λ (bs : List ℕ). IsOutputBegun settings progress.link earlier bs) (sym (append-nil front)) h);
 }
 
 -- more frames
-grown : (settings : Settings) (first link : Option ℕ) (frames new : List FrameValue) (bytes : List ℕ)
-    (held holds : Option (List ℕ)) → Continues settings first link frames bytes
-    → (g : Grows (IsBegunAs settings.form settings.fcs) link (all_linked link new) (map (finished settings) new) held
-    holds) → Continues settings first (all_linked link new) (frames ++ new) (bytes ++ g.more)
-grown settings first link frames new bytes held holds c g = record {
-  is_linked = ap (λ l. all_linked l new) c.is_linked ∙ linked-append first frames new;
+grown : (settings : Settings) (first progress next : Progress) (frames new : List FrameValue) (bytes : List ℕ)
+    (held holds : Option (List ℕ)) → Continues settings first progress progress frames bytes
+    → (g : Grows (IsBegunAs settings.form settings.fcs) progress.link next.link (map (finished settings) new) held
+    holds) → Continues settings first next next (frames ++ new) (bytes ++ g.more)
+grown settings first progress next frames new bytes held holds c g = record {
+  is_last = refl;
   begun = λ earlier front h.
-      subst (λ (fs : List FrameValue). IsOutputBegun settings (all_linked link new) fs (front ++ (bytes ++ g.more)))
+      subst (λ (fs : List FrameValue). IsOutputBegun settings next.link fs (front ++ (bytes ++ g.more)))
       (append_assoc earlier frames new)
-      (subst (λ (bs : List ℕ). IsOutputBegun settings (all_linked link new) ((earlier ++ frames) ++ new) bs)
+      (subst (λ (bs : List ℕ). IsOutputBegun settings next.link ((earlier ++ frames) ++ new) bs)
       (append_assoc front bytes g.more)
-      (subst (λ (fs : List FrameValue). IsBegunAs settings.form settings.fcs (all_linked link new) fs
+      (subst (λ (fs : List FrameValue). IsBegunAs settings.form settings.fcs next.link fs
       ((front ++ bytes) ++ g.more)) (sym (map-append (finished settings) (earlier ++ frames) new))
       (g.begun (map (finished settings) (earlier ++ frames)) (front ++ bytes) (c.begun earlier front h))));
 }
@@ -120,9 +118,9 @@ doing-begin settings first before held = record {
   frames = [];
   bytes = [];
   read = Consumes-nil before;
-  begun = continues-nothing settings first.link;
+  begun = continues-nothing settings first;
   written = Appends-nil held;
-  means = λ later more stop h. h;
+  means = λ later more stop last h. h;
 }
 
 -- what is written of the frames of a line
@@ -172,11 +170,11 @@ doing-line settings first before now after held mid holds number line progress n
   frames = d.frames ++ [];
   bytes = d.bytes;
   read = Consumes-trans before now after d.text (line ++ 10 ∷ []) d.read r.read;
-  begun = subst (λ (fs : List FrameValue). Continues settings first.link p.link fs d.bytes)
+  begun = subst (λ (fs : List FrameValue). Continues settings first p p fs d.bytes)
       (sym (append-nil d.frames)) d.begun;
   written = same_written held mid holds d.bytes d.written a;
   means = ended_means settings first number (number + 1) p p d.text line d.frames [] r.one_line d.means
-      (λ lines more stop h. empty_means settings number p line lines more stop e h);
+      (λ lines more stop last h. empty_means settings number p last line lines more stop e h);
 }
 doing-line settings first before now after held mid holds number line progress next d r
     (takes.some p t some means timely g)
@@ -185,23 +183,24 @@ doing-line settings first before now after held mid holds number line progress n
       frames = d.frames ++ frames_of settings p t;
       bytes = d.bytes ++ g.more;
       read = Consumes-trans before now after d.text (line ++ 10 ∷ []) d.read r.read;
-      begun = grown settings first.link p.link d.frames (frames_of settings p t) d.bytes mid holds d.begun g;
+      begun = grown settings first p (meant.after settings p t) d.frames (frames_of settings p t) d.bytes mid holds
+          d.begun g;
       written = Appends-trans held mid holds d.bytes g.more d.written g.written;
       means = ended_means settings first number (number + 1) p _ d.text line d.frames (frames_of settings p t)
           r.one_line d.means
-          (λ lines more stop h. meant.some number p line t lines more stop some means timely h);
+          (λ lines more stop last h. meant.some number p last line t lines more stop some means timely h);
     }
 
 -- ---- the last line
 
-last_means : (settings : Settings) (first : Progress) (number : ℕ) (progress : Progress) (text line : List ℕ)
+last_means : (settings : Settings) (first : Progress) (number : ℕ) (progress last : Progress) (text line : List ℕ)
     (frames new : List FrameValue) (stop : Option (ℕ × LineRefusal)) → All (λ c. c ≢ 10) line
     → Means settings first number progress text frames
-    → LinesMean settings number progress (line ∷ []) new stop
-    → LinesMean settings 1 first (lines_in (text ++ line)) (frames ++ new) stop
-last_means settings first number progress text line frames new stop one means h =
-    means line new stop
-    (subst (λ (ls : List (List ℕ)). LinesMean settings number progress ls new stop) (sym (lines-last line one)) h)
+    → LinesMean settings number progress last (line ∷ []) new stop
+    → LinesMean settings 1 first last (lines_in (text ++ line)) (frames ++ new) stop
+last_means settings first number progress last text line frames new stop one means h =
+    means line new stop last
+    (subst (λ (ls : List (List ℕ)). LinesMean settings number progress last ls new stop) (sym (lines-last line one)) h)
 
 known_end : (before now after : Option (List ℕ)) (text : List ℕ) → Consumes before now text
     → IfSome now (λ xs. IsAtEnd after) → IfSome before (λ xs. IsAtEnd after)
@@ -220,16 +219,17 @@ pub doing-last : (settings : Settings) (first : Progress) (before now after held
     (progress next : Progress) → Doing settings first before now held mid number progress
     → ReadsLine now after line false
     → TakesLine settings line mid holds progress next
-    → HasMade settings first (Continues settings first.link next.link) before after held holds
+    → HasMade settings first (Continues settings first next) before after held holds
 doing-last settings first before now after held mid holds number line progress next d r (takes.empty p e a) = record {
   ran = record {
     text = d.text ++ line;
     frames = d.frames ++ [];
+    last = p;
     bytes = d.bytes;
     read = read_last before now after d.text line d.read r.read;
-    means = last_means settings first number p d.text line d.frames [] None r.one_line d.means
-        (empty_means settings number p line [] [] None e (meant.none (number + 1) p));
-    is_written = subst (λ (fs : List FrameValue). Continues settings first.link p.link fs d.bytes)
+    means = last_means settings first number p p d.text line d.frames [] None r.one_line d.means
+        (empty_means settings number p p line [] [] None e (meant.none (number + 1) p));
+    is_written = subst (λ (fs : List FrameValue). Continues settings first p p fs d.bytes)
         (sym (append-nil d.frames))
         d.begun;
     written = same_written held mid holds d.bytes d.written a;
@@ -242,16 +242,19 @@ doing-last settings first before now after held mid holds number line progress n
       ran = record {
         text = d.text ++ line;
         frames = d.frames ++ (frames_of settings p t ++ []);
+        last = meant.after settings p t;
         bytes = d.bytes ++ g.more;
         read = read_last before now after d.text line d.read r.read;
-        means = last_means settings first number p d.text line d.frames (frames_of settings p t
-            ++ []) None r.one_line d.means
-            (meant.some number p line t [] [] None some means timely (meant.none (number + 1) _));
+        means = last_means settings first number p (meant.after settings p t) d.text line d.frames
+            (frames_of settings p t ++ []) None r.one_line d.means
+            (meant.some number p _ line t [] [] None some means timely (meant.none (number + 1) _));
         is_written =
-            subst (λ (fs : List FrameValue). Continues settings first.link (meant.after settings p t).link
+            subst (λ (fs : List FrameValue). Continues settings first (meant.after settings p t)
+            (meant.after settings p t)
             (d.frames ++ fs) (d.bytes ++ g.more))
             (sym (append-nil (frames_of settings p t)))
-            (grown settings first.link p.link d.frames (frames_of settings p t) d.bytes mid holds d.begun g);
+            (grown settings first p (meant.after settings p t) d.frames (frames_of settings p t) d.bytes mid holds
+            d.begun g);
         written = Appends-trans held mid holds d.bytes g.more d.written g.written;
       };
       at_end = known_end before now after d.text d.read (r.at_end refl);
@@ -261,20 +264,20 @@ doing-last settings first before now after held mid holds number line progress n
 
 -- what the text so far means, if nothing of the next line is made
 so_far : (settings : Settings) (first : Progress) (number : ℕ) (progress : Progress) (text : List ℕ)
-    (frames : List FrameValue)
-    → Means settings first number progress text frames
-    → LinesMean settings 1 first (lines_in text) frames None
+    (frames : List FrameValue) → Means settings first number progress text frames
+    → LinesMean settings 1 first progress (lines_in text) frames None
 so_far settings first number progress text frames means =
-    let Whole = LinesMean settings 1 first in
+    let Whole = LinesMean settings 1 first progress in
     subst (λ (t : List ℕ). Whole (lines_in t) frames None) (append-nil text)
     (subst (λ (fs : List FrameValue). Whole (lines_in (text ++ [])) fs None) (append-nil frames)
-    (means [] [] None (meant.empty number progress [] [] None (meant.none (number + 1) progress))))
+    (means [] [] None progress
+    (meant.empty number progress progress [] [] None (meant.none (number + 1) progress))))
 
 pub doing-broken : (settings : Settings) (first : Progress) (before now after held mid holds : Option (List ℕ))
     (number : ℕ)
     (progress : Progress) (part : List ℕ) → Doing settings first before now held mid number progress
     → Consumes now after part → StopsAt part 10
-    → Appends mid holds [] → HasBroken settings first (Continues settings first.link progress.link) before after
+    → Appends mid holds [] → HasBroken settings first (Continues settings first progress) before after
     held holds
 doing-broken settings first before now after held mid holds number progress part d reads one a = record {
   part = part;
@@ -282,6 +285,7 @@ doing-broken settings first before now after held mid holds number progress part
   ran = record {
     text = d.text;
     frames = d.frames;
+    last = progress;
     bytes = d.bytes;
     read = Consumes-trans before now after d.text part d.read reads;
     means = so_far settings first number progress d.text d.frames d.means;
@@ -307,7 +311,7 @@ after_line : (settings : Settings) (first : Progress) (before now after held mid
     (progress : Progress) (line : List ℕ) (is_ended : Bool) (told : Option LineRefusal)
     → Doing settings first before now held mid number progress → ReadsLine now after line is_ended → 0 < length line
     → IfTold (λ r. Refuses settings progress line r) told → Appends mid holds []
-    → AfterLine settings first (Continues settings first.link progress.link) before after held holds number told
+    → AfterLine settings first (Continues settings first progress) before after held holds number told
 after_line settings first before now after held mid holds number progress line is_ended None d r some means a =
     doing-broken settings first before now after held mid holds number progress (line ++ line_end is_ended) d r.read
     (stops_at line is_ended r.one_line) a
@@ -316,16 +320,18 @@ after_line settings first before now after held mid holds number progress line i
     record {
       text = d.text ++ (line ++ line_end is_ended);
       frames = d.frames ++ [];
+      last = progress;
       bytes = d.bytes;
       read =
           subst (λ (bs : List ℕ). Consumes before after bs) (sym (append-nil (d.text ++ (line ++ line_end is_ended))))
           (Consumes-trans before now after d.text (line ++ line_end is_ended) d.read r.read);
       means =
-          d.means (line ++ line_end is_ended) [] (Some (number, told))
-          (subst (λ (ls : List (List ℕ)). LinesMean settings number progress ls [] (Some (number, told))) (sym lines.1)
+          d.means (line ++ line_end is_ended) [] (Some (number, told)) progress
+          (subst (λ (ls : List (List ℕ)). LinesMean settings number progress progress ls [] (Some (number, told)))
+          (sym lines.1)
           (meant.refused number progress line lines.0 told some means));
       is_written =
-          subst (λ (fs : List FrameValue). Continues settings first.link progress.link fs d.bytes)
+          subst (λ (fs : List FrameValue). Continues settings first progress progress fs d.bytes)
           (sym (append-nil d.frames)) d.begun;
       written = same_written held mid holds d.bytes d.written a;
     }
@@ -335,12 +341,12 @@ pub doing-refused : (settings : Settings) (first : Progress) (before now after h
     (progress next : Progress) (line : List ℕ) (is_ended : Bool) (stop : Stop)
     → Doing settings first before now held mid number progress → ReadsLine now after line is_ended
     → RefusesLine settings number line mid holds progress next stop
-    → AfterLine settings first (Continues settings first.link next.link) before after held holds stop.line
+    → AfterLine settings first (Continues settings first next) before after held holds stop.line
     (fault_view stop.fault)
 doing-refused settings first before now after held mid holds number progress next line is_ended stop d r f =
-    subst (λ (n : ℕ). AfterLine settings first (Continues settings first.link next.link) before after held holds n
+    subst (λ (n : ℕ). AfterLine settings first (Continues settings first next) before after held holds n
     (fault_view stop.fault)) (sym f.line)
-    (subst (λ (p : Progress). AfterLine settings first (Continues settings first.link p.link) before after held
+    (subst (λ (p : Progress). AfterLine settings first (Continues settings first p) before after held
     holds number
     (fault_view stop.fault)) (sym f.same)
     (after_line settings first before now after held mid holds number progress line is_ended
@@ -353,7 +359,7 @@ pub doing-fault : (settings : Settings) (first : Progress) (before now after hel
     (progress next : Progress) (line : List ℕ) (is_ended : Bool) (fault : RunFault)
     → Doing settings first before now held mid number progress → ReadsLine now after line is_ended
     → AfterTaking settings number line mid holds progress next fault
-    → AfterFault settings first (Continues settings first.link next.link) before after held holds fault
+    → AfterFault settings first (Continues settings first next) before after held holds fault
 doing-fault settings first before now after held mid holds number progress next line is_ended (runs.Line stop) d r f =
     doing-refused settings first before now after held mid holds number progress next line is_ended stop d r f
 doing-fault settings first before now after held mid holds number progress next line is_ended (runs.Input error) d
@@ -364,15 +370,17 @@ doing-fault settings first before now after held mid holds number progress next 
 
 -- ---- the end
 
-ran-ends : (settings : Settings) (link : Option ℕ) (before after held mid holds : Option (List ℕ))
+ran-ends : (settings : Settings) (next : Progress) (before after held mid holds : Option (List ℕ))
     (stop : Option (ℕ × LineRefusal)) (part : List ℕ)
-    → Ran settings (beginning settings.seed) (Continues settings None link) before after held mid stop part
+    → Ran settings (beginning settings.seed) (Continues settings (beginning settings.seed) next) before after held
+    mid stop part
     → Ends (IsBegunAs settings.form settings.fcs)
-    (IsWrittenAs settings.form settings.fcs) link mid holds
-    → Ran settings (beginning settings.seed) (IsOutput settings) before after held holds stop part
-ran-ends settings link before after held mid holds stop part r e = record {
+    (IsWrittenAs settings.form settings.fcs) next.link mid holds
+    → Ran settings (beginning settings.seed) (IsWhole settings) before after held holds stop part
+ran-ends settings next before after held mid holds stop part r e = record {
   text = r.text;
   frames = r.frames;
+  last = r.last;
   bytes = r.bytes ++ e.more;
   read = r.read;
   means = r.means;
@@ -382,45 +390,49 @@ ran-ends settings link before after held mid holds stop part r e = record {
   written = Appends-trans held mid holds r.bytes e.more r.written e.written;
 }
 
-pub made-ends : (settings : Settings) (link : Option ℕ) (before after held mid holds : Option (List ℕ))
-    → HasMade settings (beginning settings.seed) (Continues settings None link) before after held mid
+pub made-ends : (settings : Settings) (next : Progress) (before after held mid holds : Option (List ℕ))
+    → HasMade settings (beginning settings.seed) (Continues settings (beginning settings.seed) next) before after
+    held mid
     → Ends (IsBegunAs settings.form settings.fcs)
-    (IsWrittenAs settings.form settings.fcs) link mid holds
-    → HasMade settings (beginning settings.seed) (IsOutput settings) before after held holds
-made-ends settings link before after held mid holds m e = record {
-  ran = ran-ends settings link before after held mid holds None [] m.ran e;
+    (IsWrittenAs settings.form settings.fcs) next.link mid holds
+    → HasMade settings (beginning settings.seed) (IsWhole settings) before after held holds
+made-ends settings next before after held mid holds m e = record {
+  ran = ran-ends settings next before after held mid holds None [] m.ran e;
   at_end = m.at_end;
 }
 
-broken-ends : (settings : Settings) (link : Option ℕ) (before after held mid holds : Option (List ℕ))
-    → HasBroken settings (beginning settings.seed) (Continues settings None link) before after held mid
+broken-ends : (settings : Settings) (next : Progress) (before after held mid holds : Option (List ℕ))
+    → HasBroken settings (beginning settings.seed) (Continues settings (beginning settings.seed) next) before after
+    held mid
     → Ends (IsBegunAs settings.form settings.fcs)
-    (IsWrittenAs settings.form settings.fcs) link mid holds
-    → HasBroken settings (beginning settings.seed) (IsOutput settings) before after held holds
-broken-ends settings link before after held mid holds b e = record {
+    (IsWrittenAs settings.form settings.fcs) next.link mid holds
+    → HasBroken settings (beginning settings.seed) (IsWhole settings) before after held holds
+broken-ends settings next before after held mid holds b e = record {
   part = b.part;
   one_line = b.one_line;
-  ran = ran-ends settings link before after held mid holds None b.part b.ran e;
+  ran = ran-ends settings next before after held mid holds None b.part b.ran e;
 }
 
-line-ends : (settings : Settings) (link : Option ℕ) (before after held mid holds : Option (List ℕ)) (line : ℕ)
-    (told : Option LineRefusal) → AfterLine settings (beginning settings.seed) (Continues settings None link)
+line-ends : (settings : Settings) (next : Progress) (before after held mid holds : Option (List ℕ)) (line : ℕ)
+    (told : Option LineRefusal) → AfterLine settings (beginning settings.seed)
+    (Continues settings (beginning settings.seed) next)
     before after held mid line told
-    → Ends (IsBegunAs settings.form settings.fcs) (IsWrittenAs settings.form settings.fcs) link mid holds
-    → AfterLine settings (beginning settings.seed) (IsOutput settings) before after held holds line told
-line-ends settings link before after held mid holds line None h e = broken-ends settings link before after held mid
+    → Ends (IsBegunAs settings.form settings.fcs) (IsWrittenAs settings.form settings.fcs) next.link mid holds
+    → AfterLine settings (beginning settings.seed) (IsWhole settings) before after held holds line told
+line-ends settings next before after held mid holds line None h e = broken-ends settings next before after held mid
     holds h e
-line-ends settings link before after held mid holds line (Some r) h e =
-    ran-ends settings link before after held mid holds (Some (line, r)) [] h e
+line-ends settings next before after held mid holds line (Some r) h e =
+    ran-ends settings next before after held mid holds (Some (line, r)) [] h e
 
-pub fault-ends : (settings : Settings) (link : Option ℕ) (before after held mid holds : Option (List ℕ))
+pub fault-ends : (settings : Settings) (next : Progress) (before after held mid holds : Option (List ℕ))
     (fault : RunFault)
-    → AfterFault settings (beginning settings.seed) (Continues settings None link) before after held mid fault
+    → AfterFault settings (beginning settings.seed) (Continues settings (beginning settings.seed) next) before
+    after held mid fault
     → Ends (IsBegunAs settings.form settings.fcs)
-    (IsWrittenAs settings.form settings.fcs) link mid holds
-    → AfterFault settings (beginning settings.seed) (IsOutput settings) before after held holds fault
-fault-ends settings link before after held mid holds (runs.Line stop) h e =
-    line-ends settings link before after held mid holds stop.line (fault_view stop.fault) h e
-fault-ends settings link before after held mid holds (runs.Input error) h e =
-    broken-ends settings link before after held mid holds h e
-fault-ends settings link before after held mid holds (runs.Output error) h e = tt
+    (IsWrittenAs settings.form settings.fcs) next.link mid holds
+    → AfterFault settings (beginning settings.seed) (IsWhole settings) before after held holds fault
+fault-ends settings next before after held mid holds (runs.Line stop) h e =
+    line-ends settings next before after held mid holds stop.line (fault_view stop.fault) h e
+fault-ends settings next before after held mid holds (runs.Input error) h e =
+    broken-ends settings next before after held mid holds h e
+fault-ends settings next before after held mid holds (runs.Output error) h e = tt

@@ -54,11 +54,11 @@ unfinished-first settings frame whole len f l =
     ∙ ap (λ (p : List ℕ). record frame { packet = p })
     (take-sequence (settings.fcs && nat_eq frame.link 1) frame.packet)
 
-padded-link : (pad : Bool) (f : FrameValue) → (padded pad f).link ≡ f.link
+pub padded-link : (pad : Bool) (f : FrameValue) → (padded pad f).link ≡ f.link
 padded-link false f = refl
 padded-link true f = if-link (nat_eq f.link 1) f (record f { packet = f.packet ++ zeros (60 - length f.packet) }) refl
 
-padded-time : (pad : Bool) (f : FrameValue) → (padded pad f).time ≡ f.time
+pub padded-time : (pad : Bool) (f : FrameValue) → (padded pad f).time ≡ f.time
 padded-time false f = refl
 padded-time true f = if-time (nat_eq f.link 1) f (record f { packet = f.packet ++ zeros (60 - length f.packet) }) refl
 

@@ -7,9 +7,10 @@ use Rattle.std.specs.List.{flat_map}
 use Rattle.ether_base.specs.Bytes.{IsBytes}
 use Rattle.ether_base.specs.Texts.NumberText.{hex_byte}
 use Rattle.etherparse.proofs.Numbers.{IsBytes-tail}
+use Rattle.ether_output.specs.HexText.{hex_text}
 use Rattle.ether_format.specs.Spelling.{colon_text, dotted_text}
 use Rattle.ether_make.specs.FieldBits.{has_dot}
-use Rattle.ether_make.specs.Texts.{hex_digit, hex_pair, and_more, pairs_after, colon_bytes, dotted_after, dotted_bytes}
+use Rattle.ether_make.specs.Texts.{hex_digit, hex_pair, hex_bytes, and_more, pairs_after, colon_bytes, dotted_after, dotted_bytes}
 
 -- ---- hexadecimal digits
 
@@ -44,6 +45,14 @@ pub colon_read : (bs : List ℕ) → IsBytes bs → colon_bytes (colon_text bs) 
 unfolding colon_text
 colon_read [] ok = refl
 colon_read (b ∷ bs) ok = rw (pair_read b (ok 0), pairs_read bs (IsBytes-tail b bs ok)) refl
+
+hex_pairs : (bs : List ℕ) → IsBytes bs → hex_bytes (flat_map (hex_byte false) bs) ≡ Some bs
+hex_pairs [] ok = refl
+hex_pairs (b ∷ bs) ok = rw (pair_read b (ok 0), hex_pairs bs (IsBytes-tail b bs ok)) refl
+
+pub hex_read : (bs : List ℕ) → IsBytes bs → hex_bytes (hex_text bs) ≡ Some bs
+unfolding hex_text
+hex_read bs ok = hex_pairs bs ok
 
 glyph_no_dot : (d : ℕ) → d < 16 → nat_eq (digit_glyph false d) 46 ≡ false
 glyph_no_dot d h = elim (cases_lt d 10) [

@@ -5,11 +5,11 @@ use Rattle.serde_json.specs.Data.{Data, Items, Members}
 use Rattle.serde_json.specs.Find.{as_array, as_object, as_str}
 use Rattle.ether_pcap.specs.Writing.{zeros}
 use Rattle.ether_fields.specs.declared.section.Section.{Section}
-use Rattle.ether_fields.specs.declared.section.Section.TheVariants.{Frame, Eth, Sll, Sll2, Rest}
+use Rattle.ether_fields.specs.declared.section.Section.TheVariants.{Frame, Eth, Sll, Sll2, Rest, Fault}
 use Rattle.ether_make.specs.declared.refusal.Reason.{Reason}
 use Rattle.ether_make.specs.declared.time_text.Time.{Time}
 use Rattle.ether_make.specs.Times.{time}
-use Rattle.ether_make.specs.declared.refusal.Reason.TheVariants.{Missing, NotANumber, NotAnArray, NotAnObject, NotAText, NotBytes, NotALink, TooBig, OtherHeader}
+use Rattle.ether_make.specs.declared.refusal.Reason.TheVariants.{Missing, NotANumber, NotAnArray, NotAnObject, NotAText, NotBytes, NotALink, TooBig, OtherHeader, Unknown}
 use Rattle.ether_make.specs.Headers.{headers_bytes, names, next_in, told, unless_unknown}
 use Rattle.ether_make.specs.Objects.{given, listed, number_of, unknown_member}
 use Rattle.ether_make.specs.Refusals.{Meaning, refused, joined}
@@ -73,9 +73,24 @@ abbrev pub rest_in : Data → Option Members → Meaning (List ℕ)
 rest_in d None = Err (refused None (codes "rest") NotAnObject)
 rest_in d (Some ms) = unless_unknown None (unknown_member rest_names d) (rest_bytes (given (codes "bytes") d))
 
-abbrev pub rest : Option Data → Meaning (List ℕ)
-rest None = Ok []
-rest (Some d) = rest_in d (as_object d)
+-- the headers of a packet with a fault are not all there, so its bytes may not be missing
+abbrev pub fault_bytes : Option Data → Meaning (List ℕ)
+fault_bytes None = Err (refused None (codes "bytes") Missing)
+fault_bytes (Some d) = text_rest (as_str d)
+
+abbrev pub fault_names : List (List ℕ)
+fault_names = names Fault ++ codes "bytes" ∷ []
+
+abbrev pub fault_in : Data → Option Members → Meaning (List ℕ)
+fault_in d None = Err (refused None (codes "fault") NotAnObject)
+fault_in d (Some ms) = unless_unknown None (unknown_member fault_names d) (fault_bytes (given (codes "bytes") d))
+
+-- the bytes of a rest or of a fault: a packet does not end in both
+abbrev pub after_headers : (rest fault : Option Data) → Meaning (List ℕ)
+after_headers None None = Ok []
+after_headers (Some d) None = rest_in d (as_object d)
+after_headers None (Some d) = fault_in d (as_object d)
+after_headers (Some d) (Some e) = Err (refused None (codes "fault") Unknown)
 
 -- ---- its link type
 
@@ -108,11 +123,12 @@ frame_link first (Some d) = numbered_link first (number_of d)
 -- ---- the frame
 
 abbrev pub frame_names : List (List ℕ)
-frame_names = names Frame ++ codes "headers" ∷ codes "rest" ∷ []
+frame_names = names Frame ++ codes "headers" ∷ codes "rest" ∷ codes "fault" ∷ []
 
--- its headers, and the rest
+-- its headers, and the bytes after them
 abbrev pub frame_bytes : Data → Meaning (List ℕ)
-frame_bytes d = joined (front (given (codes "headers") d)) (rest (given (codes "rest") d))
+frame_bytes d =
+    joined (front (given (codes "headers") d)) (after_headers (given (codes "rest") d) (given (codes "fault") d))
 
 abbrev pub framed : Meaning (List ℕ) → Meaning ℕ → Meaning Time → Meaning FrameValue
 framed (Err r) link t = Err r

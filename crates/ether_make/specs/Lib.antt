@@ -16,9 +16,11 @@ pub mod Lines
 pub mod LineViews
 pub mod Captures
 pub mod CheckSequences
+pub mod Divisions
 pub mod Outputs
 pub mod Serial
 pub mod Program
+pub mod InputFiles
 pub mod OptionTable
 pub mod WrongWords
 pub mod Options

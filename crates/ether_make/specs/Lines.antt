@@ -117,21 +117,21 @@ pub data Refuses (settings : Settings) (progress : Progress) (text : List ℕ) :
   late : (t : TemplateValue) → LineMeans progress.link text (Ok t) → is_timely settings progress t ≡ false
       → Refuses settings progress text (Object (refusal None (codes "time") OtherTime))
 
--- Lines, the first with this number, mean these frames, to the end or to a line that is refused. An empty line means
--- nothing.
+-- Lines, the first with this number, mean these frames after what lines before left, to the end or to a line that is
+-- refused; and they leave something themselves. An empty line means nothing.
 pub data LinesMean (settings : Settings)
-    : (number : ℕ) → Progress → (lines : List (List ℕ)) → (frames : List FrameValue)
+    : (number : ℕ) → (first last : Progress) → (lines : List (List ℕ)) → (frames : List FrameValue)
     → Option (ℕ × LineRefusal) → Type 0 where
-  none : (number : ℕ) (progress : Progress) → LinesMean settings number progress [] [] None
-  empty : (number : ℕ) (progress : Progress) (lines : List (List ℕ)) (frames : List FrameValue)
+  none : (number : ℕ) (progress : Progress) → LinesMean settings number progress progress [] [] None
+  empty : (number : ℕ) (progress last : Progress) (lines : List (List ℕ)) (frames : List FrameValue)
       (stop : Option (ℕ × LineRefusal))
-      → LinesMean settings (number + 1) progress lines frames stop
-      → LinesMean settings number progress ([] ∷ lines) frames stop
-  some : (number : ℕ) (progress : Progress) (line : List ℕ) (t : TemplateValue) (lines : List (List ℕ))
+      → LinesMean settings (number + 1) progress last lines frames stop
+      → LinesMean settings number progress last ([] ∷ lines) frames stop
+  some : (number : ℕ) (progress last : Progress) (line : List ℕ) (t : TemplateValue) (lines : List (List ℕ))
       (frames : List FrameValue) (stop : Option (ℕ × LineRefusal))
       → 0 < length line → LineMeans progress.link line (Ok t) → is_timely settings progress t ≡ true
-      → LinesMean settings (number + 1) (after settings progress t) lines frames stop
-      → LinesMean settings number progress (line ∷ lines) (frames_of settings progress t ++ frames) stop
+      → LinesMean settings (number + 1) (after settings progress t) last lines frames stop
+      → LinesMean settings number progress last (line ∷ lines) (frames_of settings progress t ++ frames) stop
   refused : (number : ℕ) (progress : Progress) (line : List ℕ) (lines : List (List ℕ)) (r : LineRefusal)
       → 0 < length line → Refuses settings progress line r
-      → LinesMean settings number progress (line ∷ lines) [] (Some (number, r))
+      → LinesMean settings number progress progress (line ∷ lines) [] (Some (number, r))

@@ -10,6 +10,7 @@ use Rattle.ether_format.specs.Origins.{OriginValue}
 use Rattle.ether_format.specs.declared.end.End.{End}
 use Rattle.ether_format.specs.declared.moment.Moment.{Moment}
 use Rattle.ether_format.specs.Members.{Value, Nothing, Number, Protocol, Flag, Bytes, Dotted, Word, Text, Time, Within, Member, packet_members}
+use Rattle.ether_format.specs.JsonBytes.{exact_members, exact_end_members}
 use Rattle.ether_format.specs.Spelling.{colon_text, dotted_text, nine_digits, dated_text, seconds_text, has_date, interval_text}
 use Rattle.ether_format.specs.Told.{Told, told_members, end_section, end_members}
 use Rattle.ether_make.specs.PacketJson.{text_shown}
@@ -50,13 +51,24 @@ members_into (m ∷ ms) found = members_into ms (put m.name (value_data m.value)
 abbrev pub members_data : List Member → Data
 members_data ms = object (members_into ms no_members)
 
-abbrev pub headers_data : List Told → Items
-headers_data [] = no_items
-headers_data (h ∷ hs) = item (members_data (told_members h)) (headers_data hs)
+-- headers, each with the members that a function says
+abbrev pub headers_data : (members : Told → List Member) → List Told → Items
+headers_data members [] = no_items
+headers_data members (h ∷ hs) = item (members_data (members h)) (headers_data members hs)
+
+-- .. in a packet, whose walk ends with the members `last`
+abbrev pub packet_data_of : (members : Told → List Member) → (last : List Member) → (origin : OriginValue)
+    → PacketValue → Option Moment → List Told → End → Data
+packet_data_of members last origin p moment headers end =
+    object
+    (put (section_name (end_section end)) (members_data last) (put (codes "headers")
+    (array (headers_data members headers))
+    (members_into (packet_members origin p moment) no_members)))
 
 abbrev pub packet_data : (origin : OriginValue) → PacketValue → Option Moment → List Told → End → Data
-packet_data origin p moment headers end =
-    object
-    (put (section_name (end_section end)) (members_data (end_members end))
-    (put (codes "headers") (array (headers_data headers))
-    (members_into (packet_members origin p moment) no_members)))
+packet_data origin p moment headers end = packet_data_of told_members (end_members end) origin p moment headers end
+
+-- .. with each byte of the packet
+abbrev pub exact_data : (origin : OriginValue) → PacketValue → Option Moment → List Told → End → Data
+exact_data origin p moment headers end =
+    packet_data_of (exact_members p.packet) (exact_end_members p.packet end) origin p moment headers end

@@ -13,6 +13,7 @@ use Rattle.ether_format.specs.Origins.{OriginValue}
 use Rattle.ether_format.specs.declared.end.End.{End}
 use Rattle.ether_format.specs.declared.moment.Moment.{Moment}
 use Rattle.ether_format.specs.Members.{Value, Nothing, Number, Protocol, Flag, Bytes, Dotted, Word, Text, Time, Within, Member, packet_members}
+use Rattle.ether_format.specs.JsonBytes.{exact_members, exact_end_members}
 use Rattle.ether_format.specs.Spelling.{colon_text, dotted_text, dated_text, seconds_text, has_date, interval_text}
 use Rattle.ether_format.specs.Told.{Told, told_members, end_section, end_members}
 
@@ -53,15 +54,26 @@ members_before (m ∷ ms) rest = member m.name (value_json m.value) (members_bef
 abbrev pub members_json : List Member → Json
 members_json ms = object (members_before ms no_members)
 
-abbrev pub headers_json : List Told → Items
-headers_json [] = no_items
-headers_json (h ∷ hs) = item (members_json (told_members h)) (headers_json hs)
+-- headers, each with the members that a function says
+abbrev pub headers_json : (members : Told → List Member) → List Told → Items
+headers_json members [] = no_items
+headers_json members (h ∷ hs) = item (members_json (members h)) (headers_json members hs)
+
+-- .. in a packet, whose walk ends with the members `last`
+abbrev pub packet_json_of : (members : Told → List Member) → (last : List Member) → (origin : OriginValue)
+    → PacketValue → Option Moment → List Told → End → Json
+packet_json_of members last origin p moment headers end =
+    object
+    (members_before (packet_members origin p moment) (member (codes "headers") (array (headers_json members headers))
+    (member (section_name (end_section end)) (members_json last) no_members)))
 
 abbrev pub packet_json : (origin : OriginValue) → PacketValue → Option Moment → List Told → End → Json
-packet_json origin p moment headers end =
-    object
-    (members_before (packet_members origin p moment) (member (codes "headers") (array (headers_json headers))
-    (member (section_name (end_section end)) (members_json (end_members end)) no_members)))
+packet_json origin p moment headers end = packet_json_of told_members (end_members end) origin p moment headers end
+
+-- .. with each byte of the packet
+abbrev pub exact_json : (origin : OriginValue) → PacketValue → Option Moment → List Told → End → Json
+exact_json origin p moment headers end =
+    packet_json_of (exact_members p.packet) (exact_end_members p.packet end) origin p moment headers end
 
 -- ---- packets of programs
 

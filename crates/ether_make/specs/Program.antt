@@ -4,10 +4,10 @@ use Rattle.std.specs.Io.KnownBytes.{Appends, Consumes, IsAtEnd}
 use Rattle.std.specs.Io.{StopsAt}
 use Rattle.ether_make.specs.Captures.{Grows}
 use Rattle.ether_make.specs.Frames.{FrameValue}
-use Rattle.ether_make.specs.Lines.{LineMeans, LineRefusal, LinesMean, Progress, Refuses, after, all_linked, frames_of, is_timely, lines_in}
+use Rattle.ether_make.specs.Lines.{LineMeans, LineRefusal, LinesMean, Progress, Refuses, after, frames_of, is_timely, lines_in}
 use Rattle.ether_make.specs.Templates.{TemplateValue}
 use Rattle.ether_make.specs.LineViews.{IfTold, fault_view}
-use Rattle.ether_make.specs.Outputs.{IsBegunAs, IsOutputBegun, finished}
+use Rattle.ether_make.specs.Outputs.{IsBegunAs, IsOutput, IsOutputBegun, finished}
 use Rattle.ether_make.specs.declared.settings.Settings.{Settings}
 use Rattle.ether_make.specs.declared.lines.Stop.{Stop}
 use Rattle.ether_make.specs.declared.program.RunFault.{RunFault}
@@ -15,49 +15,58 @@ use Rattle.ether_make.specs.declared.program.RunFault.TheVariants.{Input, Line, 
 
 -- ---- a run
 
--- the output of these frames continues that of frames before them, whose link type this is
-pub record Continues (settings : Settings) (link after : Option ℕ) (frames : List FrameValue) (bytes : List ℕ)
+-- Lines that leave `last` have frames whose output continues that of frames before them. `first` is what is left by the
+-- lines before, and `next` what is left by these.
+pub record Continues (settings : Settings) (first next last : Progress) (frames : List FrameValue) (bytes : List ℕ)
     : Type 0 where
-  pub is_linked : after ≡ all_linked link frames
-  pub begun : (earlier : List FrameValue) (front : List ℕ) → IsOutputBegun settings link earlier front
-      → IsOutputBegun settings after (earlier ++ frames) (front ++ bytes)
+  pub is_last : next ≡ last
+  pub begun : (earlier : List FrameValue) (front : List ℕ) → IsOutputBegun settings first.link earlier front
+      → IsOutputBegun settings next.link (earlier ++ frames) (front ++ bytes)
+
+-- the output of frames, whatever their lines leave
+abbrev pub IsWhole : Settings → (last : Progress) → (frames : List FrameValue) → (bytes : List ℕ) → Type 0
+IsWhole settings last frames bytes = IsOutput settings frames bytes
 
 -- The reader gave lines, and after them a part of a line that is not made. These lines mean frames after what other
 -- lines left, to their end or to the line that is refused, and the writer took bytes that are these frames.
-pub record Ran (settings : Settings) (first : Progress) (IsWritten : List FrameValue → List ℕ → Type 0)
+pub record Ran (settings : Settings) (first : Progress) (IsWritten : Progress → List FrameValue → List ℕ → Type 0)
     (before after held holds : Option (List ℕ)) (stop : Option (ℕ × LineRefusal)) (part : List ℕ) : Type 0 where
   pub text : List ℕ
   pub frames : List FrameValue
+  pub last : Progress
   pub bytes : List ℕ
   pub read : Consumes before after (text ++ part)
-  pub means : LinesMean settings 1 first (lines_in text) frames stop
-  pub is_written : IsWritten frames bytes
+  pub means : LinesMean settings 1 first last (lines_in text) frames stop
+  pub is_written : IsWritten last frames bytes
   pub written : Appends held holds bytes
 
 -- the reader is at its end, and the writer took the frames of all lines
-pub record HasMade (settings : Settings) (first : Progress) (IsWritten : List FrameValue → List ℕ → Type 0)
+pub record HasMade (settings : Settings) (first : Progress) (IsWritten : Progress → List FrameValue → List ℕ → Type 0)
     (before after held holds : Option (List ℕ)) : Type 0 where
   pub ran : Ran settings first IsWritten before after held holds None []
   pub at_end : IfSome before (λ xs. IsAtEnd after)
 
 -- the run ended in the middle of a line, and the writer took the frames of all lines before it
-pub record HasBroken (settings : Settings) (first : Progress) (IsWritten : List FrameValue → List ℕ → Type 0)
-    (before after held holds : Option (List ℕ)) : Type 0 where
+pub record HasBroken (settings : Settings) (first : Progress)
+    (IsWritten : Progress → List FrameValue → List ℕ → Type 0) (before after held holds : Option (List ℕ))
+    : Type 0 where
   pub part : List ℕ
   pub one_line : StopsAt part 10
   pub ran : Ran settings first IsWritten before after held holds None part
 
 -- the run ended at this line, since it is refused, or since there was no memory
-abbrev pub AfterLine : Settings → (first : Progress) → (IsWritten : List FrameValue → List ℕ → Type 0)
-    → (before after held holds : Option (List ℕ)) → (line : ℕ) → Option LineRefusal → Type 0
+abbrev pub AfterLine : Settings → (first : Progress)
+    → (IsWritten : Progress → List FrameValue → List ℕ → Type 0) → (before after held holds : Option (List ℕ))
+    → (line : ℕ) → Option LineRefusal → Type 0
 AfterLine settings first IsWritten before after held holds line None =
     HasBroken settings first IsWritten before after held holds
 AfterLine settings first IsWritten before after held holds line (Some r) =
     Ran settings first IsWritten before after held holds (Some (line, r)) []
 
 -- what is known after a fault; of one that the writer had nothing
-abbrev pub AfterFault : Settings → (first : Progress) → (IsWritten : List FrameValue → List ℕ → Type 0)
-    → (before after held holds : Option (List ℕ)) → RunFault → Type 0
+abbrev pub AfterFault : Settings → (first : Progress)
+    → (IsWritten : Progress → List FrameValue → List ℕ → Type 0) → (before after held holds : Option (List ℕ))
+    → RunFault → Type 0
 AfterFault settings first IsWritten before after held holds (Line stop) =
     AfterLine settings first IsWritten before after held holds stop.line (fault_view stop.fault)
 AfterFault settings first IsWritten before after held holds (Input error) =

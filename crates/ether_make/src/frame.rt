@@ -2,9 +2,10 @@
 ghost use Rattle.std.specs.Prelude.{◌≡◌, ◌++◌, ◌-◌, None, IfOk, codes, length, map};
 ghost use Rattle.ether_pcap.specs.Writing.{zeros};
 ghost use Rattle.std.specs.Option.{option_map};
+ghost use Rattle.serde_json.specs.Find.{as_object, as_str};
 ghost use Rattle.serde_json.specs.View.{view};
 ghost use Rattle.ether_make.specs.Objects.{given as given_in};
-ghost use Rattle.ether_make.specs.Frames.{front as front_in, front_of as front_of_in, rest as rest_of_in, rest_bytes as rest_bytes_in, spelled_rest, frame_bytes as frame_bytes_in, frame_meaning, link_of as link_of_in, first_header as first_header_in, usual_link as usual_link_in, frame_link as frame_link_in, padded as padded_in};
+ghost use Rattle.ether_make.specs.Frames.{front as front_in, front_of as front_of_in, after_headers as after_headers_in, fault_in, rest_in, rest_bytes as rest_bytes_in, spelled_rest, text_rest, frame_bytes as frame_bytes_in, frame_meaning, link_of as link_of_in, first_header as first_header_in, usual_link as usual_link_in, frame_link as frame_link_in, padded as padded_in};
 ghost use Rattle.ether_make.specs.FrameViews.{frame_view};
 ghost use Rattle.ether_make.specs.Texts.{hex_bytes as hex_in};
 ghost use Rattle.ether_make.specs.Headers.{next_in, told};
@@ -61,7 +62,11 @@ fn with_zeros(bytes: Vec<u8>) -> Result<Vec<u8>, AllocError>
 pub fn make_frame<'v>(alloc: Global, object: &'v Value) -> Result<Frame, Fault<'v>>
     ensures { Tells frame_view (frame_meaning (view object.now)) result }
 {
-    if let Some(member) = unknown_member(object, Section::Frame.fields(), &["headers", "rest"]) {
+    if let Some(member) = unknown_member(
+        object,
+        Section::Frame.fields(),
+        &["headers", "rest", "fault"],
+    ) {
         return Err(refused(member, Reason::Unknown));
     }
     let bytes = match frame_bytes(alloc, object) {
@@ -100,7 +105,7 @@ fn told_link<'v>(object: &'v Value) -> Result<u16, Fault<'v>>
     }
 }
 
-/// The bytes of a frame: its headers, and the rest.
+/// The bytes of a frame: its headers, and those after them.
 fn frame_bytes<'v>(alloc: Global, object: &'v Value) -> Result<Vec<u8>, Fault<'v>>
     ensures { Tells (λ v. v.items) (frame_bytes_in (view object.now)) result }
 {
@@ -108,9 +113,9 @@ fn frame_bytes<'v>(alloc: Global, object: &'v Value) -> Result<Vec<u8>, Fault<'v
         Ok(bytes) => bytes,
         Err(fault) => return Err(fault),
     };
-    match rest(alloc, given(object, "rest")) {
-        Ok(rest) => {
-            if bytes.extend_from_slice(&rest).is_err() {
+    match after_headers(alloc, given(object, "rest"), given(object, "fault")) {
+        Ok(last) => {
+            if bytes.extend_from_slice(&last).is_err() {
                 return Err(Fault::Memory);
             }
         }
@@ -209,13 +214,28 @@ fn first_header(object: &Value) -> Option<Section>
     next_section(given(object, "headers")?.as_array()?.as_slice())
 }
 
-/// The bytes after the headers.
-fn rest<'v>(alloc: Global, rest: Option<&'v Value>) -> Result<Vec<u8>, Fault<'v>>
-    ensures { Tells (λ v. v.items) (rest_of_in (option_map (λ v. view v.now) rest.entry)) result }
+/// The bytes after the headers: those of a rest, or of a fault.
+fn after_headers<'v>(
+    alloc: Global,
+    rest: Option<&'v Value>,
+    fault: Option<&'v Value>,
+) -> Result<Vec<u8>, Fault<'v>>
+    ensures { Tells (λ v. v.items)
+        (after_headers_in (option_map (λ v. view v.now) rest.entry) (option_map (λ v. view v.now) fault.entry))
+        result }
 {
-    let Some(rest) = rest else {
-        return Ok(Vec::new(alloc));
-    };
+    match (rest, fault) {
+        (None, None) => Ok(Vec::new(alloc)),
+        (Some(rest), None) => rest_of(alloc, rest),
+        (None, Some(fault)) => fault_of(alloc, fault),
+        (Some(_), Some(_)) => Err(refused("fault", Reason::Unknown)),
+    }
+}
+
+/// The bytes of a rest.
+fn rest_of<'v>(alloc: Global, rest: &'v Value) -> Result<Vec<u8>, Fault<'v>>
+    ensures { Tells (λ v. v.items) (rest_in (view rest.now) (as_object (view rest.now))) result }
+{
     if !rest.is_object() {
         return Err(refused("rest", Reason::NotAnObject));
     }
@@ -225,13 +245,36 @@ fn rest<'v>(alloc: Global, rest: Option<&'v Value>) -> Result<Vec<u8>, Fault<'v>
     rest_bytes(alloc, given(rest, "bytes"))
 }
 
-/// The bytes of the member `bytes`.
+/// The bytes of a fault.
+fn fault_of<'v>(alloc: Global, fault: &'v Value) -> Result<Vec<u8>, Fault<'v>>
+    ensures { Tells (λ v. v.items) (fault_in (view fault.now) (as_object (view fault.now))) result }
+{
+    if !fault.is_object() {
+        return Err(refused("fault", Reason::NotAnObject));
+    }
+    if let Some(member) = unknown_member(fault, Section::Fault.fields(), &["bytes"]) {
+        return Err(refused(member, Reason::Unknown));
+    }
+    match given(fault, "bytes") {
+        Some(bytes) => text_bytes(alloc, bytes),
+        None => Err(refused("bytes", Reason::Missing)),
+    }
+}
+
+/// The bytes of the member `bytes` of a rest.
 fn rest_bytes<'v>(alloc: Global, bytes: Option<&'v Value>) -> Result<Vec<u8>, Fault<'v>>
     ensures { Tells (λ v. v.items) (rest_bytes_in (option_map (λ v. view v.now) bytes.entry)) result }
 {
-    let Some(value) = bytes else {
-        return Ok(Vec::new(alloc));
-    };
+    match bytes {
+        Some(bytes) => text_bytes(alloc, bytes),
+        None => Ok(Vec::new(alloc)),
+    }
+}
+
+/// The bytes that a value spells, which is a text.
+fn text_bytes<'v>(alloc: Global, value: &'v Value) -> Result<Vec<u8>, Fault<'v>>
+    ensures { Tells (λ v. v.items) (text_rest (as_str (view value.now))) result }
+{
     let Some(text) = value.as_str() else {
         return Err(refused("bytes", Reason::NotAText));
     };

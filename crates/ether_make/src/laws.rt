@@ -3,6 +3,7 @@ ghost use Rattle.std.specs.Prelude.{◌<◌, ◌^◌, IfSome};
 ghost use Rattle.std.specs.Option.{option_map};
 ghost use Rattle.ether_base.specs.Bytes.{IsBytes};
 ghost use Rattle.ether_pcap.specs.CaptureViews.{captured_packet_view, timestamp_view};
+ghost use Rattle.ether_make.specs.Divisions.{RemaindersAreLeft};
 ghost use Rattle.ether_make.specs.FrameLaws.{LinesMakeFrames};
 ghost use Rattle.ether_format.specs.Origins.{origin_view};
 ghost use Rattle.ether_make.specs.Laws.{LinesAreJson};
@@ -11,14 +12,21 @@ ghost use Rattle.ether_make.specs.PacketJson.{FitsPacket};
 use ether_format::Origin;
 use ether_pcap::{CapturedPacket, Timestamp};
 
-/// Each line that a packet has in JSON is a JSON text, which has one value: what the packet tells.
+/// Each line that a packet has in JSON, also with all its bytes, is a JSON text, which has one value: what the packet
+/// tells.
 pub fn lines_are_json()
     ensures { LinesAreJson }
 {}
 
-/// The line of a packet makes the headers of the packet again: Ethernet II, VLAN tags, SecTags and ARP.
+/// The line of a packet makes the headers of the packet again, and the line with all its bytes makes the packet: with
+/// headers of Ethernet II, VLAN tags, SecTags and ARP.
 pub fn lines_make_frames()
     ensures { LinesMakeFrames }
+{}
+
+/// What is left of a division by the generator of check sequences is the remainder of polynomials.
+pub fn remainders_are_left()
+    ensures { RemaindersAreLeft }
 {}
 
 /// Each packet that a program reads has numbers of 64 bits and fewer than 2^63 bytes, as the law on lines asks.

@@ -16,6 +16,7 @@ pub mod hex_lines;
 pub mod input_files;
 pub mod laws;
 pub mod lines;
+pub mod named_files;
 pub mod objects;
 pub mod option_table;
 pub mod options;
@@ -37,6 +38,7 @@ pub mod wrong_words;
 
 use about::{HELP, VERSION};
 use input_files::{FileFault, run_files};
+use named_files::NamedFiles;
 use options::request_of_words;
 use program::RunFault;
 use request::{Job, Request, RequestError};
@@ -103,7 +105,16 @@ fn make_to<W: Write + Drop>(rt: HostRuntime, job: &Job<'_>, output: W, name: &st
     let Ok(mut writer) = BufWriter::new(rt.alloc(), output) else {
         return no_memory(rt);
     };
-    match run_files(&rt, rt.alloc(), job, &mut rt.reader(), &mut writer) {
+    let files = NamedFiles::new(&rt);
+    let names = job.files.as_slice();
+    match run_files(
+        &files,
+        rt.alloc(),
+        &job.settings,
+        names,
+        &mut rt.reader(),
+        &mut writer,
+    ) {
         Ok(()) => 0,
         Err(fault) => tell(rt, &fault, name),
     }

@@ -2,8 +2,7 @@
 ghost use Rattle.std.specs.Prelude.{◌≡◌, IfOk, IfErr, OnErr, OnOk};
 ghost use Rattle.ether_make.specs.Lines.{beginning};
 ghost use Rattle.ether_make.specs.Messages.{fault_status};
-ghost use Rattle.ether_make.specs.Outputs.{IsOutput};
-ghost use Rattle.ether_make.specs.Program.{AfterFault, AfterTaking, BreaksLine, Continues, HasMade, ReadsLine, TakesLine};
+ghost use Rattle.ether_make.specs.Program.{AfterFault, AfterTaking, BreaksLine, Continues, HasMade, IsWhole, ReadsLine, TakesLine};
 ghost use Rattle.ether_make.specs.Serial.{SeriesOf, progress_view};
 
 use crate::lines::{LineFault, Stop, line_template, owned_refusal};
@@ -35,9 +34,9 @@ pub fn run<R: BufRead, W: Write>(
     reader: &mut R,
     writer: &mut W,
 ) -> Result<(), RunFault>
-    ensures made { OnOk result (HasMade settings.now (beginning settings.now.seed) (IsOutput settings.now)
+    ensures made { OnOk result (HasMade settings.now (beginning settings.now.seed) (IsWhole settings.now)
         (R.remaining reader.old) (R.remaining reader.new) (W.contents writer.old) (W.contents writer.new)) }
-    ensures fault { IfErr result (AfterFault settings.now (beginning settings.now.seed) (IsOutput settings.now)
+    ensures fault { IfErr result (AfterFault settings.now (beginning settings.now.seed) (IsWhole settings.now)
         (R.remaining reader.old) (R.remaining reader.new) (W.contents writer.old) (W.contents writer.new)) }
 {
     let mut progress = Progress::new(settings.seed);
@@ -63,10 +62,10 @@ pub(crate) fn make_lines<R: BufRead, W: Write>(
     progress: &mut Progress,
 ) -> Result<(), RunFault>
     ensures made { OnOk result (HasMade settings.now (progress_view progress.old)
-        (Continues settings.now progress.old.link progress.new.link) (R.remaining reader.old)
+        (Continues settings.now (progress_view progress.old) (progress_view progress.new)) (R.remaining reader.old)
         (R.remaining reader.new) (W.contents writer.old) (W.contents writer.new)) }
     ensures fault { IfErr result (AfterFault settings.now (progress_view progress.old)
-        (Continues settings.now progress.old.link progress.new.link) (R.remaining reader.old)
+        (Continues settings.now (progress_view progress.old) (progress_view progress.new)) (R.remaining reader.old)
         (R.remaining reader.new) (W.contents writer.old) (W.contents writer.new)) }
 {
     let mut line = Vec::new(alloc);

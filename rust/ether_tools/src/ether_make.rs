@@ -14,6 +14,7 @@ pub mod input_files;
 pub mod json;
 pub mod lines;
 pub mod memory;
+pub mod named_files;
 pub mod objects;
 pub mod option_table;
 pub mod options;

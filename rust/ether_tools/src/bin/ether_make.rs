@@ -3,6 +3,8 @@
 //! Written by hand, not proved: `crates/ether_make/src/main.rt` takes the streams and files from the runtime of Rattle.
 use ether_tools::ether_make::about::{HELP, VERSION};
 use ether_tools::ether_make::input_files::{FileFault, run_files};
+use ether_tools::ether_make::memory::Global;
+use ether_tools::ether_make::named_files::NamedFiles;
 use ether_tools::ether_make::options::request_of_words;
 use ether_tools::ether_make::program::{RunFault, status_of};
 use ether_tools::ether_make::request::{Job, Request, RequestError};
@@ -59,7 +61,7 @@ fn make_to<W: Write>(job: &Job<'_>, mut writer: W, name: &str) -> u8 {
             return 4;
         }
     };
-    match run_files(job, &mut BufReader::new(input), &mut writer) {
+    match run_files(&NamedFiles, Global, &job.settings, job.files.as_slice(), &mut BufReader::new(input), &mut writer) {
         Ok(()) => 0,
         Err(fault) => tell(&fault, name),
     }

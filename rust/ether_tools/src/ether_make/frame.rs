@@ -60,7 +60,11 @@ fn with_zeros(bytes: Vec<u8>) -> Result<Vec<u8>, AllocError> {
 ///
 /// </details>
 pub fn make_frame<'v>(alloc: Global, object: &'v Value) -> Result<Frame, Fault<'v>> {
-    if let Some(member) = unknown_member(object, Section::Frame.fields(), &["headers", "rest"]) {
+    if let Some(member) = unknown_member(
+        object,
+        Section::Frame.fields(),
+        &["headers", "rest", "fault"],
+    ) {
         return Err(refused(member, Reason::Unknown));
     }
     let bytes = match frame_bytes(alloc, object) {
@@ -93,15 +97,15 @@ fn told_link<'v>(object: &'v Value) -> Result<u16, Fault<'v>> {
     }
 }
 
-/// The bytes of a frame: its headers, and the rest.
+/// The bytes of a frame: its headers, and those after them.
 fn frame_bytes<'v>(alloc: Global, object: &'v Value) -> Result<Vec<u8>, Fault<'v>> {
     let mut bytes = match front(alloc, given(object, "headers")) {
         Ok(bytes) => bytes,
         Err(fault) => return Err(fault),
     };
-    match rest(alloc, given(object, "rest")) {
-        Ok(rest) => {
-            if bytes.try_extend_from_slice(&rest).is_err() {
+    match after_headers(alloc, given(object, "rest"), given(object, "fault")) {
+        Ok(last) => {
+            if bytes.try_extend_from_slice(&last).is_err() {
                 return Err(Fault::Memory);
             }
         }
@@ -185,11 +189,22 @@ fn first_header(object: &Value) -> Option<Section> {
     next_section(given(object, "headers")?.as_array()?.as_slice())
 }
 
-/// The bytes after the headers.
-fn rest<'v>(alloc: Global, rest: Option<&'v Value>) -> Result<Vec<u8>, Fault<'v>> {
-    let Some(rest) = rest else {
-        return Ok(crate::ether_make::memory::list(alloc));
-    };
+/// The bytes after the headers: those of a rest, or of a fault.
+fn after_headers<'v>(
+    alloc: Global,
+    rest: Option<&'v Value>,
+    fault: Option<&'v Value>,
+) -> Result<Vec<u8>, Fault<'v>> {
+    match (rest, fault) {
+        (None, None) => Ok(crate::ether_make::memory::list(alloc)),
+        (Some(rest), None) => rest_of(alloc, rest),
+        (None, Some(fault)) => fault_of(alloc, fault),
+        (Some(_), Some(_)) => Err(refused("fault", Reason::Unknown)),
+    }
+}
+
+/// The bytes of a rest.
+fn rest_of<'v>(alloc: Global, rest: &'v Value) -> Result<Vec<u8>, Fault<'v>> {
     if !rest.is_object() {
         return Err(refused("rest", Reason::NotAnObject));
     }
@@ -199,11 +214,30 @@ fn rest<'v>(alloc: Global, rest: Option<&'v Value>) -> Result<Vec<u8>, Fault<'v>
     rest_bytes(alloc, given(rest, "bytes"))
 }
 
-/// The bytes of the member `bytes`.
+/// The bytes of a fault.
+fn fault_of<'v>(alloc: Global, fault: &'v Value) -> Result<Vec<u8>, Fault<'v>> {
+    if !fault.is_object() {
+        return Err(refused("fault", Reason::NotAnObject));
+    }
+    if let Some(member) = unknown_member(fault, Section::Fault.fields(), &["bytes"]) {
+        return Err(refused(member, Reason::Unknown));
+    }
+    match given(fault, "bytes") {
+        Some(bytes) => text_bytes(alloc, bytes),
+        None => Err(refused("bytes", Reason::Missing)),
+    }
+}
+
+/// The bytes of the member `bytes` of a rest.
 fn rest_bytes<'v>(alloc: Global, bytes: Option<&'v Value>) -> Result<Vec<u8>, Fault<'v>> {
-    let Some(value) = bytes else {
-        return Ok(crate::ether_make::memory::list(alloc));
-    };
+    match bytes {
+        Some(bytes) => text_bytes(alloc, bytes),
+        None => Ok(crate::ether_make::memory::list(alloc)),
+    }
+}
+
+/// The bytes that a value spells, which is a text.
+fn text_bytes<'v>(alloc: Global, value: &'v Value) -> Result<Vec<u8>, Fault<'v>> {
     let Some(text) = value.as_str() else {
         return Err(refused("bytes", Reason::NotAText));
     };

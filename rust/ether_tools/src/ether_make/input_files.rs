@@ -1,11 +1,32 @@
-//! The lines of files, one after another. Written by hand, not proved.
-use crate::ether_make::memory::Global;
+//! The lines of files, one after another.
+
 use crate::ether_make::output::write_end;
 use crate::ether_make::program::{RunFault, make_lines};
 use crate::ether_make::progress::Progress;
-use crate::ether_make::request::Job;
-use std::fs::File;
-use std::io::{BufRead, BufReader, Write};
+use crate::ether_make::settings::Settings;
+use crate::ether_make::memory::Global;
+use std::io;
+use std::io::{BufRead, Write};
+
+/// The name of standard input among those of files.
+const STANDARD_INPUT: &str = "-";
+
+/// What opens files by their names.
+pub trait Inputs {
+    /// The bytes of a file.
+    type Input: BufRead;
+
+    /// Opens the file of a name, at its first byte.
+    ///
+    /// <details><summary>Contract</summary>
+    ///
+    /// ```text
+    /// ensures { IfOk result (λ input. has self.now name.now (Self.Input.Read.remaining input)) }
+    /// ```
+    ///
+    /// </details>
+    fn open_named(&self, alloc: Global, name: &str) -> io::Result<Self::Input>;
+}
 
 /// Why a run over files did not make all frames.
 pub struct FileFault<'a> {
@@ -18,32 +39,161 @@ pub struct FileFault<'a> {
 /// Makes the frames of the lines of files, one file after another, and writes them as one output. The file `-` is
 /// standard input, which is read if no file is named. The first fault ends the run; the output has the frames of all
 /// lines before it.
-pub fn run_files<'a, R: BufRead, W: Write>(job: &Job<'a>, reader: &mut R, writer: &mut W) -> Result<(), FileFault<'a>> {
-    let mut progress = Progress::new(job.settings.seed);
-    let names = if job.files.is_empty() { &["-"] } else { job.files.as_slice() };
-    let ending = names.iter().try_for_each(|name| make_file(job, name, reader, writer, &mut progress));
-    if let Err(FileFault { fault: RunFault::Output(_), .. }) = ending {
-        return ending;
+///
+/// <details><summary>Contract</summary>
+///
+/// ```text
+/// ensures made { OnOk result (HasMadeFiles (I.has inputs.now) settings.now (IsWhole settings.now)
+///     (beginning settings.now.seed)
+///     (named_or_input (map (λ s. s.now) names.now)) (R.remaining reader.old) (R.remaining reader.new)
+///     (W.contents writer.old) (W.contents writer.new)) }
+/// ensures fault { IfErr result (λ f. UnlessOutput f.fault (StopsRun (I.has inputs.now) settings.now
+///     (named_or_input (map (λ s. s.now) names.now)) (R.remaining reader.old) (R.remaining reader.new)
+///     (W.contents writer.old) (W.contents writer.new) f)) }
+/// ```
+///
+/// </details>
+pub fn run_files<'a, I: Inputs, R: BufRead, W: Write>(
+    inputs: &I,
+    alloc: Global,
+    settings: &Settings,
+    names: &'a [&'a str],
+    reader: &mut R,
+    writer: &mut W,
+) -> Result<(), FileFault<'a>> {
+    let mut progress = Progress::new(settings.seed);
+    match make_files(
+        inputs,
+        alloc,
+        settings,
+        or_input(names),
+        reader,
+        writer,
+        &mut progress,
+    ) {
+        Ok(()) => match write_end(settings, writer, progress.link) {
+            Ok(()) => Ok(()),
+            Err(error) => Err(output_fault(error)),
+        },
+        Err(fault) => match &fault.fault {
+            RunFault::Output(_) => Err(fault),
+            _ => match write_end(settings, writer, progress.link) {
+                Ok(()) => Err(fault),
+                Err(error) => Err(output_fault(error)),
+            },
+        },
     }
-    let written = write_end(&job.settings, writer, progress.link);
-    written.map_err(|error| FileFault { file: None, fault: RunFault::Output(error) }).and(ending)
 }
 
-/// Makes the frames of the lines of a file.
-fn make_file<'a, R: BufRead, W: Write>(
-    job: &Job<'a>,
+/// The names of files, or that of standard input if there are none.
+///
+/// <details><summary>Contract</summary>
+///
+/// ```text
+/// ensures { map (λ s. s.now) result.now ≡ named_or_input (map (λ s. s.now) names.now) }
+/// ```
+///
+/// </details>
+fn or_input<'a>(names: &'a [&'a str]) -> &'a [&'a str] {
+    if names.is_empty() {
+        return &[STANDARD_INPUT];
+    }
+    names
+}
+
+/// The writer failed at the end.
+///
+/// <details><summary>Contract</summary>
+///
+/// ```text
+/// ensures { result ≡ record { file = None; fault = RunFault.Output error } }
+/// ```
+///
+/// </details>
+fn output_fault<'a>(error: io::Error) -> FileFault<'a> {
+    FileFault {
+        file: None,
+        fault: RunFault::Output(error),
+    }
+}
+
+/// Makes the frames of the lines of files after those of other lines, if there are any.
+///
+/// <details><summary>Contract</summary>
+///
+/// ```text
+/// ensures made { OnOk result (HasMadeFiles (I.has inputs.now) settings.now
+///     (Continues settings.now (progress_view progress.old) (progress_view progress.new)) (progress_view progress.old)
+///     (map (λ s. s.now) names.now) (R.remaining reader.old) (R.remaining reader.new)
+///     (W.contents writer.old) (W.contents writer.new)) }
+/// ensures fault { IfErr result (StopsFiles (I.has inputs.now) settings.now (progress_view progress.old)
+///     (progress_view progress.new)
+///     (map (λ s. s.now) names.now) (R.remaining reader.old) (R.remaining reader.new)
+///     (W.contents writer.old) (W.contents writer.new)) }
+/// ```
+///
+/// </details>
+fn make_files<'a, I: Inputs, R: BufRead, W: Write>(
+    inputs: &I,
+    alloc: Global,
+    settings: &Settings,
+    names: &'a [&'a str],
+    reader: &mut R,
+    writer: &mut W,
+    progress: &mut Progress,
+) -> Result<(), FileFault<'a>> {
+    for name in names {
+        if let Err(fault) = make_file(inputs, alloc, settings, name, reader, writer, progress) {
+            return Err(fault);
+        }
+    }
+    Ok(())
+}
+
+/// Makes the frames of the lines of a file or of standard input.
+///
+/// <details><summary>Contract</summary>
+///
+/// ```text
+/// ensures made { OnOk result (HasMadeFiles (I.has inputs.now) settings.now
+///     (Continues settings.now (progress_view progress.old) (progress_view progress.new)) (progress_view progress.old)
+///     (name.now ∷ []) (R.remaining reader.old) (R.remaining reader.new)
+///     (W.contents writer.old) (W.contents writer.new)) }
+/// ensures fault { IfErr result (StopsNamed (I.has inputs.now) settings.now
+///     (Continues settings.now (progress_view progress.old) (progress_view progress.new)) (progress_view progress.old)
+///     name.now (R.remaining reader.old) (R.remaining reader.new) (W.contents writer.old) (W.contents writer.new)) }
+/// ```
+///
+/// </details>
+fn make_file<'a, I: Inputs, R: BufRead, W: Write>(
+    inputs: &I,
+    alloc: Global,
+    settings: &Settings,
     name: &'a str,
     reader: &mut R,
     writer: &mut W,
     progress: &mut Progress,
 ) -> Result<(), FileFault<'a>> {
-    if name == "-" {
-        let made = make_lines(Global, &job.settings, reader, writer, progress);
-        return made.map_err(|fault| FileFault { file: None, fault });
+    if name == STANDARD_INPUT {
+        return match make_lines(alloc, settings, reader, writer, progress) {
+            Ok(()) => Ok(()),
+            Err(fault) => Err(FileFault { file: None, fault }),
+        };
     }
-    let made = match File::open(name) {
-        Ok(file) => make_lines(Global, &job.settings, &mut BufReader::new(file), writer, progress),
-        Err(error) => Err(RunFault::Input(error)),
+    let mut input = match inputs.open_named(alloc, name) {
+        Ok(input) => input,
+        Err(error) => {
+            return Err(FileFault {
+                file: Some(name),
+                fault: RunFault::Input(error),
+            });
+        }
     };
-    made.map_err(|fault| FileFault { file: Some(name), fault })
+    match make_lines(alloc, settings, &mut input, writer, progress) {
+        Ok(()) => Ok(()),
+        Err(fault) => Err(FileFault {
+            file: Some(name),
+            fault,
+        }),
+    }
 }

@@ -26,9 +26,9 @@ pub enum RunFault {
 /// <details><summary>Contract</summary>
 ///
 /// ```text
-/// ensures made { OnOk result (HasMade settings.now (beginning settings.now.seed) (IsOutput settings.now)
+/// ensures made { OnOk result (HasMade settings.now (beginning settings.now.seed) (IsWhole settings.now)
 ///     (R.remaining reader.old) (R.remaining reader.new) (W.contents writer.old) (W.contents writer.new)) }
-/// ensures fault { IfErr result (AfterFault settings.now (beginning settings.now.seed) (IsOutput settings.now)
+/// ensures fault { IfErr result (AfterFault settings.now (beginning settings.now.seed) (IsWhole settings.now)
 ///     (R.remaining reader.old) (R.remaining reader.new) (W.contents writer.old) (W.contents writer.new)) }
 /// ```
 ///
