@@ -1,7 +1,6 @@
 //! Values of JSON, which `serde_json` reads. Written by hand, not proved.
 use crate::ether_make::memory::Global;
 use serde::de::{Deserialize, Deserializer, MapAccess, SeqAccess, Visitor};
-use std::collections::BTreeMap;
 use std::fmt;
 
 /// A value of JSON, as far as the program tells values apart.
@@ -24,7 +23,7 @@ pub enum Value {
 
 /// The members of an object, in the order of their names. One whose name is there again has the last value.
 pub struct Map<K, V> {
-    members: BTreeMap<K, V>,
+    members: Vec<(K, V)>,
 }
 
 /// A text is no value of JSON. `serde_json` ends the program if it gets no memory.
@@ -45,14 +44,15 @@ pub fn from_slice(_alloc: Global, text: &[u8]) -> Result<Value, NoValue> {
 impl<V> Map<String, V> {
     /// The names of the members.
     pub fn keys(&self) -> impl Iterator<Item = &String> {
-        self.members.keys()
+        self.members.iter().map(|(name, _)| name)
     }
 }
 
 impl Value {
     /// The value of a member of an object.
     pub fn get(&self, name: &str) -> Option<&Value> {
-        self.as_object()?.members.get(name)
+        let (_, value) = self.as_object()?.members.iter().find(|(other, _)| other == name)?;
+        Some(value)
     }
 
     /// Tests that the value is `null`.
@@ -140,10 +140,18 @@ impl<'de> Visitor<'de> for AnyValue {
     }
 
     fn visit_map<A: MapAccess<'de>>(self, mut from: A) -> Result<Value, A::Error> {
-        let mut members = BTreeMap::new();
+        let mut members: Vec<(String, Value)> = Vec::with_capacity(16);
         while let Some((name, value)) = from.next_entry()? {
-            members.insert(name, value);
+            members.push((name, value));
         }
+        members.sort_by(|(name, _), (other, _)| name.cmp(other));
+        members.dedup_by(|later, earlier| {
+            let is_same = later.0 == earlier.0;
+            if is_same {
+                std::mem::swap(later, earlier);
+            }
+            is_same
+        });
         Ok(Value::Object(Map { members }))
     }
 }
