@@ -129,6 +129,7 @@ fn columns(name: &[u8], text: &mut Text) -> fmt::Result {
 fn packets(draw: &mut Draw, name: &[u8], text: &mut Text) -> fmt::Result {
     let format = match Format::of_text(name) {
         Some(Format::Fields(columns)) if draw.flag() => Format::Csv(columns),
+        Some(Format::Json) if draw.flag() => Format::JsonBytes,
         Some(format) => format,
         None => return Ok(()),
     };

@@ -80,7 +80,7 @@ variants! {
     }
     Part { 0 Header(it), 1 Trailer }
     Section { 0 Frame, 1 Eth, 2 Sll, 3 Sll2, 4 Vlan, 5 Macsec, 6 Arp, 7 Headers, 8 Rest, 9 Fault }
-    Format { 0 Json, 1 Brief, 2 Fields(it), 3 Csv(it) }
+    Format { 0 Json, 1 Brief, 2 Fields(it), 3 Csv(it), 4 JsonBytes }
 }
 
 impl Returned for PacketSlice<'_> {
