@@ -48,10 +48,7 @@ class Crate:
 
 def metadata(package, *words):
     """What cargo says of a package and all that it depends on."""
-    registry = subprocess.run(["sh", f"{TOP}/rust/registry.sh"], stdout=subprocess.PIPE, text=True, check=True).stdout.strip()
-    source = ['source.crates-io.replace-with="debian"', f'source.debian.directory="{registry}"'] if registry else []
-    configured = [word for it in source for word in ("--config", it)]
-    said = ["cargo", "metadata", "--format-version", "1", "--locked", *["--offline"] * bool(registry), *configured, *words]
+    said = ["sh", f"{TOP}/rust/cargo.sh", "metadata", "--format-version", "1", "--locked", *words]
     ran = subprocess.run(said, cwd=f"{TOP}/rust/{package}", stdout=subprocess.PIPE, stderr=subprocess.PIPE, text=True)
     if ran.returncode:
         sys.exit(f"cargo does not say what {package} is made of: {ran.stderr.strip()}")

@@ -1,4 +1,4 @@
-"""Runs cargo over the crates. If Debian's packages have their dependency, cargo takes it from there, without a network.
+"""Runs cargo over the crates, by cargo.sh.
 
     python3 rust/building.py
 
@@ -7,7 +7,6 @@ says why they can't be built here, if they can't.
 import argparse
 import os
 import re
-import shutil
 import signal
 import subprocess
 import sys
@@ -17,20 +16,9 @@ CRATE, CALLS, PROGRAMS = (os.path.join(HERE, name) for name in ("etherpeel", "et
 OLDEST = (1, 85)
 
 
-def debian():
-    """The words that make cargo take its crates from those of Debian, if they are there."""
-    registry = subprocess.run(["sh", f"{HERE}/registry.sh"], stdout=subprocess.PIPE, text=True, check=True).stdout.strip()
-    if not registry:
-        return []
-    source = 'source.crates-io.replace-with="debian"', f'source.debian.directory="{registry}"'
-    return ["--offline", *(word for it in source for word in ("--config", it))]
-
-
 def cargo(*words, folder=CRATE, seconds=None, **environment):
     """What cargo printed, and its status. A call of more than so many seconds, if they are given, is ended, with status 1."""
-    name, *others = words
-    at = others.index("--") if "--" in others else len(others)
-    said = ["cargo", name, *others[:at], *(debian() if name != "fmt" else []), *others[at:]]
+    said = ["sh", f"{HERE}/cargo.sh", *words]
     given = {**os.environ, "CARGO_TERM_COLOR": "never", **environment}
     with subprocess.Popen(said, cwd=folder, env=given, stdin=subprocess.DEVNULL, stdout=subprocess.PIPE, stderr=subprocess.PIPE, text=True,
                           errors="replace", start_new_session=True) as ran:
@@ -43,18 +31,8 @@ def cargo(*words, folder=CRATE, seconds=None, **environment):
 
 def missing(folder=CRATE):
     """Why a crate can't be built here, or None."""
-    if shutil.which("cargo") is None:
-        return "cargo was not found"
-    told, _ = cargo_version()
-    if told < OLDEST:
-        return f"cargo {told[0]}.{told[1]} is older than {OLDEST[0]}.{OLDEST[1]}"
-    text, status = cargo("fetch", folder=folder)
-    return f"cargo does not find what it needs: {text.strip().splitlines()[-1]}" if status else None
-
-
-def cargo_version():
-    text = subprocess.run(["cargo", "--version"], stdout=subprocess.PIPE, text=True, check=True).stdout
-    return tuple(int(it) for it in re.search(r"(\d+)\.(\d+)", text).groups()), text
+    text, status = cargo("missing", folder=folder)
+    return text.strip().splitlines()[0] if status else None
 
 
 def features():

@@ -1,7 +1,7 @@
 #!/bin/sh
 # registry.sh: prints a folder from which cargo takes crates in place of crates.io: of those that Debian's packages librust-..-dev have. Debian
 # lacks the checksums of some; here each that a lock file names has the one of the lock file. Prints nothing where Debian's packages lack
-# arrayvec 0.7, or where the crates are in the folder `vendor` of the sources.
+# arrayvec 0.7, or where the crates are in the folder `vendor` of the sources. DEBIAN_REGISTRY names another folder than that of the packages.
 usage() {
     sed -n '/^#!/d; /^#/!q; s/^# *//p' "$0"
     exit "$1"
@@ -13,7 +13,7 @@ case $#:${1:-} in
 esac
 set -eu
 cd "$(dirname "$0")"
-debian=/usr/share/cargo/registry
+debian=${DEBIAN_REGISTRY:-/usr/share/cargo/registry}
 made=$PWD/target/registry
 if [ -d ../vendor ] || [ -z "$(find "$debian" -maxdepth 1 -name 'arrayvec-0.7*' 2> /dev/null)" ]; then exit; fi
 locks=$(ls ether_tools/Cargo.lock etherpeel_c/Cargo.lock 2> /dev/null || true)

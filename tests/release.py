@@ -20,6 +20,7 @@ import tarfile
 import tempfile
 
 sys.dont_write_bytecode = True
+import first_commands  # noqa: E402
 import released  # noqa: E402
 from released import FRAME, QUICK, TAG, TOP, check, counts, run  # noqa: E402
 
@@ -117,13 +118,13 @@ def check_packages(dist, root):
 
 
 def check_aarch64(top, work, **environment):
-    """Builds the packages for aarch64, and runs what they have in an emulator. Tells whether that can be done here."""
+    """Builds the packages for aarch64, and runs what they have in an emulator. A line says why, if that can't be done here."""
     dist, root = f"{work}/aarch64", f"{work}/aarch64/root"
     os.makedirs(root)
     status, said = run("sh", "release/debian.sh", "aarch64", dist, folder=top, **QUICK, **environment)
     if status == 3:
         print(said.strip())
-        return False
+        return
     packages = glob.glob(f"{dist}/*_arm64.deb")
     check("packages for aarch64", status == 0 and len(packages) == 3, said)
     for package in packages:
@@ -141,23 +142,23 @@ def check_aarch64(top, work, **environment):
         built = run("aarch64-linux-gnu-gcc", "-o", f"{root}/fits", f"{root}/fits.c", f"-I{root}/usr/include", *words)
         ran = run(*emulator, "-E", f"LD_LIBRARY_PATH={lib}", f"{root}/fits")
         check(f"a program in C on aarch64, {kind}", built[0] == 0 and ran[0] == 0, built[1] + ran[1])
-    return True
 
 
 def check_vendored(dist, work):
-    """Builds the sources with the crates in them, where cargo knows neither Debian's crates nor a network: the library for C, and the
-    programs for aarch64, or for this processor if that can't be done here."""
+    """Builds the sources with the crates in them, where cargo knows neither Debian's crates nor a network: the library for C, the programs for
+    aarch64 if that can be done here, and what the first two commands of README.md build."""
     with tarfile.open(glob.glob(f"{dist}/*-vendored.tar.gz")[0]) as archive:
         archive.extractall(f"{work}/vendored")
     top = f"{work}/vendored/jalkumfe-{released.VERSION}"
     offline = {"CARGO_HOME": f"{work}/vendored/home", "CARGO_NET_OFFLINE": "true"}
     check("its registry", run("sh", "rust/registry.sh", folder=top) == (0, ""))
     when = run("git", "log", "-1", "--format=%ct")[1].strip()
-    packages = ["etherpeel_c"] if check_aarch64(top, work, SOURCE_DATE_EPOCH=when, **offline) else ["etherpeel_c", "ether_tools"]
-    for package in packages:
-        words = "cargo", "build", "--offline", "--locked", "--quiet"
-        status, said = run(*words, folder=f"{top}/rust/{package}", CARGO_PROFILE_DEV_DEBUG="0", **offline)
-        check(f"{package} of the archive with the crates", status == 0, said)
+    check_aarch64(top, work, SOURCE_DATE_EPOCH=when, **offline)
+    words = "cargo", "build", "--offline", "--locked", "--quiet"
+    status, said = run(*words, folder=f"{top}/rust/etherpeel_c", CARGO_PROFILE_DEV_DEBUG="0", **offline)
+    check("etherpeel_c of the archive with the crates", status == 0, said)
+    path = released.path_without(f"{work}/vendored/path", "rt")
+    first_commands.check_commands("the archive with the crates", top, f"{work}/vendored/user", path, **offline, **QUICK)
 
 
 def main():
@@ -167,6 +168,7 @@ def main():
         print(f"left out: the release, since {', '.join(lacking) or 'what cargo needs'} was not found", "0 passed, 0 failed", sep="\n")
         return 0
     with tempfile.TemporaryDirectory() as work:
+        os.chmod(work, 0o755)  # a test runs a program as another user
         check_equal(work)
         if shutil.which("lintian"):
             status, said = run("lintian", "--fail-on", "error", *glob.glob(f"{work}/one/*.deb"))

@@ -28,7 +28,7 @@ COMMANDS = {
     "options": [sys.executable, "tests/options.py"],
     "scripts": [sys.executable, "tests/scripts.py"],
     "manual pages": [sys.executable, "tests/manual_pages.py"],
-    "library tests": [sys.executable, "try.py", "library_tests"],
+    "first commands": [sys.executable, "tests/first_commands.py"],
     "rust": [sys.executable, "rust/test.py"],
     "crates": ["rt", "ci"],
     "tool": [sys.executable, "tests/ether_tool.py", "crates/ether_tool/out/ether_tool"],
