@@ -189,6 +189,9 @@ def tried_in(network):
     asked = numbers(network, "left")
     reasons = {words: number for words, number in asked["p1"].items() if words.startswith("discarded")}
     yield "numbers when they are asked for", reasons, {"discarded (reserved address)": 1, "discarded (frame type)": 1}
+    network.programs["right"].stdout.close()
+    network.programs["right"].send_signal(signal.SIGUSR1)
+    yield "frames go on when nobody reads the numbers", network.ping("h4", "h3"), True
     network.programs["left"].send_signal(signal.SIGTERM)
     yield "numbers at the end", numbers(network, "left")["p1"]["received"] >= asked["p1"]["received"], True
     yield "the status at the end", network.programs["left"].wait(5), 0

@@ -239,6 +239,7 @@ static int open_all(void) {
             err(1, "%s", p->link.name);
     }
     warn_of_addresses();
+    signal(SIGPIPE, SIG_IGN); /* frames go on if nobody reads the numbers */
     sigemptyset(&signals);
     for (int i = 0; i < 3; i++) sigaddset(&signals, numbers[i]);
     const int fd = sigprocmask(SIG_BLOCK, &signals, NULL) ? -1 : signalfd(-1, &signals, 0);

@@ -63,6 +63,8 @@ def leaving():
     bridge, plain = small(), frame(ALL, ONE)
     received = bridge.receive(0, 0, plain)
     check("received", received, ({2}, {1}, 5, 0, False, False, None))
+    for call in (bridge.leaving, bridge.tagged, bridge.untagged):
+        check(f"{call.__name__} of no frame that was received", raised(call, [], plain), TypeError)
     check("leaving", bridge.leaving(received, plain), {1: plain, 2: frame(ALL, ONE, tag(5))})
     for pcp, dei, vid in ((0, 0, 5), (1, 0, 5), (7, 1, 5), (3, 0, 6)):
         came = frame(ALL, ONE, tag(vid, pcp, dei))

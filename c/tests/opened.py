@@ -146,6 +146,7 @@ def frames(tagged, cooked):
                etherpeel.packet(*words, ether_type=frame.ether_type), etherpeel.summary(*words, ether_type=frame.ether_type, limit=1),
                etherpeel.fields(*words, ether_type=frame.ether_type)))
     check("no frame", packet._replace(link_type=105).frame, None)
+    check("no packet", raised(etherpeel.captured_frame, 0), TypeError)
 
 
 def opened(content, expected, tagged, cooked):

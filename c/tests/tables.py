@@ -1,5 +1,6 @@
 """Tests of tables of captures, also as arrays of NumPy and data frames of pandas, if the Python that runs them has both: tables.py FOLDER,
 where FOLDER has the package. The last line is 'N passed, M failed'."""
+import pickle
 import random
 import struct
 import sys
@@ -53,6 +54,10 @@ def worked_examples():
     check("repr", repr(table), "<etherpeel.Table with 4 rows>")
     other = etherpeel.open(file_of([TAGGED], 147)).table()
     check("nothing walked", other[0], (1700000000000000000, 19, 19, 147, None, None, (), 0, False, False, None, 0))
+    copy = pickle.loads(pickle.dumps(table))
+    check("pickled", (type(copy), list(copy), list(pickle.loads(pickle.dumps(other)))), (etherpeel.Table, list(table), list(other)))
+    if numpy:
+        check("columns of NumPy", numpy.asarray(table).dtype.names, tuple(name for name, _ in etherpeel._header.Row._fields_))
     check("no packets", list(etherpeel.open(file_of([], 1)).table()), [])
 
 
@@ -88,7 +93,7 @@ def arrays():
     records = numpy.asarray(table)
     check("records", (records.shape, records["vlan_ids"].tolist()[:2], records["destination"].tolist()[:1]),
           ((5003,), [[0x123, 0, 0], [0, 0, 0]], [0xFFFFFFFFFFFF]))
-    check("memory", records.__array_interface__["data"][0], table.__array_interface__["data"][0])
+    check("memory", (numpy.shares_memory(records, numpy.asarray(table)), records.flags.writeable), (True, False))
     columns = table.columns()
     check("columns", (columns["vlan_1"].tolist(), columns["vlan_count"].tolist()),
           ([it.vlan_ids[0] if it.vlan_ids else 0 for it in table], [len(it.vlan_ids) for it in table]))

@@ -153,6 +153,9 @@ def bridge() -> None:
     leaving: Dict[int, bytes] = switch.leaving(received, FRAME)
     seen: Optional[etherpeel.Sighting] = switch.find(291, b"\\2\\0\\0\\0\\0\\1")
     port: etherpeel.Port = switch.ports[0]
+    switch.change_port(0, learning=False)
+    with contextlib.suppress(TypeError):
+        switch.change_port(0, nonsense=1)  # type: ignore[call-arg]
     switch.ports[0] = port  # type: ignore[index]
 
 

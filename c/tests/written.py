@@ -30,6 +30,9 @@ def bytes_written():
     check("copied", copy.getvalue(), file.getvalue())
     check("check sequence", etherpeel.Writer(copy, 0xFFFF, 0, 4).close(), None)
     check("its length", copy.getvalue()[-4:], bytes.fromhex("ffff0024"))
+    other = io.BytesIO()
+    etherpeel.Writer(other, snap_len=0x1234, fcs_len=8)
+    check("other lengths", other.getvalue()[16:], bytes.fromhex("34120000 01000044"))
 
 
 def not_written():
@@ -74,6 +77,8 @@ def frames():
     changed = [tagged[0].header, tagged[1].header._replace(vid=7, pcp=0, dei=False)]
     check("tag", etherpeel.write_frame(changed, TAGGED[18:]), TAGGED[:14] + b"\0\7" + TAGGED[16:])
     check("no rest", etherpeel.write_frame(changed[:1]), TAGGED[:14])
+    for rest in (5, True, [1, 2, 3], "text", None):
+        check(f"a rest of {rest!r}", raised(lambda: etherpeel.write_frame(changed, rest)), TypeError)
     check("no header", raised(etherpeel.write_frame, []), etherpeel.BuildError)
     check("no field", raised(etherpeel.write_frame, [changed[0], changed[1]._replace(vid=4096)]), etherpeel.BuildError)
 

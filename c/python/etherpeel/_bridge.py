@@ -11,8 +11,10 @@ from typing import Any, Dict, FrozenSet, Iterable, Mapping, NamedTuple, Optional
 from . import _header
 from ._addresses import Address, station
 from ._header import BridgeKind, Discarded, Forgotten, FrameTypes, Status
-from ._library import Error, between, declare, lent, lib, number, required
+from ._library import Error, between, declare, instance, lent, lib, number, required
 from ._types import Buffer
+
+_SAME: Any = object()  # a setting that is not changed
 
 # These calls are short, so they keep the interpreter's lock: threads can share a bridge.
 _switch = C.PyDLL(lib._name)
@@ -146,14 +148,19 @@ class Bridge:
                                       number("default_priority", default_priority, 3), bool(learning), bool(forwarding),
                                       bool(isolated), bool(mirror)))
 
-    def change_port(self, port: int, **settings: Any) -> None:
+    def change_port(self, port: int, *, pvid: Optional[int] = _SAME, tagged: Iterable[int] = _SAME,
+                    untagged: Iterable[int] = _SAME, frame_types: Optional[FrameTypes] = _SAME,
+                    refuses_second_tag: bool = _SAME, ingress_filtering: bool = _SAME, default_priority: int = _SAME,
+                    learning: bool = _SAME, forwarding: bool = _SAME, isolated: bool = _SAME,
+                    mirror: bool = _SAME) -> None:
         """Changes some settings of a port, as in `bridge.change_port(1, learning=False, forwarding=False)`. Raises
         `KeyError` if there is no such port; otherwise as `set_port`."""
+        given = locals()
         old = self._ports[port]
         words = old._asdict()
         if old.frame_types == _default_types(*old[:3]):
             words["frame_types"] = None
-        self.set_port(port, **{**words, **settings})
+        self.set_port(port, **{**words, **{name: given[name] for name in words if given[name] is not _SAME}})
 
     def remove_port(self, port: int) -> None:
         """Removes a port and forgets its stations. Raises `KeyError` if there is no such port."""
@@ -191,15 +198,16 @@ class Bridge:
     def tagged(self, received: Received, frame: Buffer) -> bytes:
         """The frame as it leaves with the tag of its VLAN. Raises `Error` if it was discarded, or is not the one that
         was received."""
-        return self._left(_switch.etherpeel_switch_tagged, received, frame)
+        return self._left(_switch.etherpeel_switch_tagged, instance("received", received, Received), frame)
 
     def untagged(self, received: Received, frame: Buffer) -> bytes:
         """The frame as it leaves without a tag. Raises as `tagged`."""
-        return self._left(_switch.etherpeel_switch_untagged, received, frame)
+        return self._left(_switch.etherpeel_switch_untagged, instance("received", received, Received), frame)
 
     def leaving(self, received: Received, frame: Buffer) -> Dict[int, bytes]:
         """What leaves, by the numbers of the ports; nothing if the frame was discarded, or is reserved."""
         found: Dict[int, bytes] = {}
+        instance("received", received, Received)
         for ports, call in ((received.tagged, self.tagged), (received.untagged, self.untagged)):
             if ports:
                 found.update(dict.fromkeys(ports, call(received, frame)))

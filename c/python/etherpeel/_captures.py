@@ -8,7 +8,7 @@ from typing import Any, Dict, Iterator, List, NamedTuple, Optional, Protocol, Se
 
 from . import _header
 from ._header import Start, Status
-from ._library import Error, StatusError, between, lent, lib, number, reader, text
+from ._library import Error, StatusError, between, instance, lent, lib, number, reader, text
 from ._reading import Interface, interfaces_of
 from ._sources import content_of
 from ._tables import Table, table_of
@@ -324,7 +324,7 @@ def captured_frame(packet: Captured) -> Optional[Frame]:
     type announces the payload.
     """
     frame = _header.Frame()
-    with lent(packet.packet) as (at, length):
+    with lent(instance("packet", packet, Captured).packet) as (at, length):
         if lib.etherpeel_captured_frame(C.byref(told(packet, at, length)), C.byref(frame)) != Status.DONE:
             return None
     view = memoryview(packet.packet).cast("B")[frame.offset:frame.offset + frame.len]

@@ -70,6 +70,13 @@ def between(name, value, least, greatest):
     return value
 
 
+def instance(name, value, kind):
+    """The value, if it is of this type; else raises a `TypeError`."""
+    if not isinstance(value, kind):
+        raise TypeError(f"{name} is a {kind.__name__}, not {type(value).__name__}")
+    return value
+
+
 class StatusError(Error):
     """A call returned a status that its caller did not expect."""
 

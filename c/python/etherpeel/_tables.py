@@ -45,17 +45,18 @@ class Table(Sequence[Row]):
     """A row for each packet of a capture, as `Capture.table` returns it: a sequence of `Row`.
 
     NumPy takes it as an array of records, without a copy: `numpy.asarray(table)["vlan_count"]`. `columns` has an array for each column,
-    and `to_pandas` a data frame.
+    and `to_pandas` a data frame. It can be pickled.
     """
 
     def __init__(self, rows: Any) -> None:
         self._rows = rows
         self._memory = memoryview(rows).cast("B") if len(rows) else b""
 
-    @property
-    def __array_interface__(self) -> Dict[str, Any]:
-        return {"version": 3, "shape": (len(self._rows),), "typestr": f"|V{_SIZE}", "descr": _described(),
-                "data": (C.addressof(self._rows), True)}
+    def __array__(self, dtype: Any = None, copy: Optional[bool] = None) -> numpy.ndarray[Any, Any]:
+        import numpy
+
+        rows = numpy.ndarray(len(self._rows), numpy.dtype(_described()), memoryview(self._memory).toreadonly())
+        return rows if dtype is None and not copy else numpy.array(rows, dtype)
 
     def columns(self) -> Dict[str, numpy.ndarray[Any, Any]]:
         """The columns as arrays of NumPy, each with memory of its own, by their names: those of `Row`, with `time` (`datetime64[ns]`,
@@ -98,6 +99,9 @@ class Table(Sequence[Row]):
     def __repr__(self) -> str:
         return f"<etherpeel.Table with {len(self)} rows>"
 
+    def __reduce__(self) -> Tuple[Any, ...]:
+        return _unpickled, (bytes(self._memory),)
+
     def _row(self, index: int) -> Row:
         row = self._rows[index]
         has_addresses = bool(row.has_addresses)
@@ -107,19 +111,16 @@ class Table(Sequence[Row]):
                    FaultKind(row.fault) if row.fault else None, row.fault_offset)
 
 
-_SIZE = C.sizeof(_header.Row)
+def _described() -> Any:
+    """The fields of a row and their places, as NumPy takes them."""
+    names = [name for name, _ in _header.Row._fields_]
+    kinds = [(_NUMBERS[it._type_], (it._length_,)) if hasattr(it, "_length_") else _NUMBERS[it] for _, it in _header.Row._fields_]
+    return {"names": names, "formats": kinds, "offsets": [getattr(_header.Row, it).offset for it in names], "itemsize": C.sizeof(_header.Row)}
 
 
-def _described() -> List[Tuple[Any, ...]]:
-    """The fields of a row, as NumPy names them, with the bytes after the last one."""
-    found: List[Tuple[Any, ...]] = []
-    for name, kind in _header.Row._fields_:
-        is_array = hasattr(kind, "_length_")
-        number = _NUMBERS[kind._type_ if is_array else kind]
-        found.append((name, number, (kind._length_,)) if is_array else (name, number))
-    last = _header.Row._fields_[-1][0]
-    end = getattr(_header.Row, last).offset + getattr(_header.Row, last).size
-    return [*found, ("", f"|V{_SIZE - end}")] if end < _SIZE else found
+def _unpickled(content: bytes) -> Table:
+    """The table whose rows have these bytes."""
+    return Table((_header.Row * (len(content) // C.sizeof(_header.Row))).from_buffer_copy(content))
 
 
 def table_of(packets: Any) -> Table:

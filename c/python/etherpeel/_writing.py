@@ -25,7 +25,7 @@ def write_frame(headers: Sequence[Header], rest: Buffer = b"") -> bytes:
     last. No field is set by what follows it, and nothing is computed anew. Raises `BuildError` if there is no such frame.
     """
     units, addresses = all_passed(headers)
-    length, content = C.c_size_t(), addresses + bytes(rest)
+    length, content = C.c_size_t(), addresses + bytes(memoryview(rest))
     words = (units, len(units), content, len(content), len(addresses))
     status = lib.etherpeel_write_frame(*words, None, 0, C.byref(length))
     if status != Status.NO_ROOM:
