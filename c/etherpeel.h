@@ -2,8 +2,8 @@
  *
  * Ethernet II, VLAN tags (IEEE 802.1Q), MACsec SecTags (IEEE 802.1AE), Linux cooked capture v1 and
  * v2, and ARP (RFC 826), each announced by the ether type of the header before it. For C99 and
- * C++11, on Linux on x86-64, aarch64 and s390x. Link with libetherpeel, static or shared:
- * pkg-config etherpeel.
+ * C++11, on processors with pointers of 64 bits, of either byte order; tested on x86-64, aarch64
+ * and s390x. Link with libetherpeel, static or shared: pkg-config etherpeel.
  *
  * What holds for every call:
  *
@@ -50,13 +50,13 @@
 #ifndef ETHERPEEL_H
 #define ETHERPEEL_H
 
-#if !defined(__linux__) || !defined(__LP64__) || \
-    !(defined(__x86_64__) || defined(__aarch64__) || defined(__s390x__))
-#error "etherpeel.h is for Linux on x86-64, aarch64 and s390x: others may pass structs otherwise"
-#endif
-
+#include <limits.h>
 #include <stddef.h>
 #include <stdint.h>
+
+#if CHAR_BIT != 8 || SIZE_MAX != UINT64_MAX || UINTPTR_MAX != UINT64_MAX
+#error "etherpeel.h needs bytes of 8 bits, and size_t and pointers of 64 bits"
+#endif
 
 /* The version of this interface. The first number changes if a struct, a number or a call changes
  * its meaning, the second if some are added. */

@@ -44,9 +44,16 @@ if command -v "$nm" > "$work/shared.log" && command -v "$readelf" > "$work/share
 else
     echo "left out: the names that the shared library exports, since nm and readelf were not found"
 fi
-for without in -U__linux__ -U__LP64__ "-U__x86_64__ -U__aarch64__ -U__s390x__"; do
+wanted='needs bytes of 8 bits, and size_t and pointers of 64 bits'
+for with in "-U__CHAR_BIT__ -D__CHAR_BIT__=16" "-U__SIZE_MAX__ -D__SIZE_MAX__=0xFFFFFFFFU" "-U__UINTPTR_MAX__ -D__UINTPTR_MAX__=0xFFFFFFFFU"; do
     # each word is one argument
-    refusal=$("$cc" $without -x c -fsyntax-only etherpeel.h 2>&1 | grep -om 1 'is for Linux on x86-64, aarch64 and s390x')
-    check "with $without" "$refusal" 'is for Linux on x86-64, aarch64 and s390x'
+    refusal=$("$cc" -ffreestanding $with -x c -fsyntax-only etherpeel.h 2>&1 | grep -om 1 "$wanted")
+    check "with $with" "$refusal" "$wanted"
+done
+# clang knows other processors
+for target in riscv64 powerpc64le; do
+    if command -v clang > "$work/shared.log"; then
+        check "etherpeel.h for $target" "$(clang --target=$target-linux-gnu -ffreestanding -x c -fsyntax-only etherpeel.h 2>&1)" ""
+    fi
 done
 echo "$passed passed, $failed failed"
