@@ -2,9 +2,9 @@
 # release.sh [FOLDER]: writes what is released of the last commit into a folder, dist without it: the sources, also with the crates that they
 # need, the crate for cargo, the wheel and the source archive of the Python package, packages of Debian for x86-64 and aarch64 with the programs,
 # the library and what is compiled with it, the page, a list of what is in each file, and checksums. The page is the file that PAGE names, none
-# if that is empty, or else built by the kit. Cargo builds all the rest. The bytes do not depend on the folder, the user, the umask and the time
-# zone. PROCESSORS names the processors of the packages. Needs git, cargo, a C compiler, python3, strip and dpkg-deb; what can't be made is left
-# out, and a line says so.
+# if that is empty, or else built by the kit, or without it by cargo and clang. Cargo builds all the rest. The bytes do not depend on the folder,
+# the user, the umask and the time zone. PROCESSORS names the processors of the packages. Needs git, cargo, a C compiler, python3, strip and
+# dpkg-deb; what can't be made is left out, and a line says so.
 usage() {
     sed -n '/^#!/d; /^#/!q; s/^# *//p' "$0"
     exit "$1"
@@ -50,7 +50,7 @@ END
 cp "rust/etherpeel/target/package/etherpeel-$version.crate" "$dist"
 if [ -n "${PAGE:-}" ]; then
     cp "$PAGE" "$dist/etherpeel-$version.html"
-elif [ -z "${PAGE+named}" ] && command -v rt > "$work/none"; then
+elif [ -z "${PAGE+named}" ]; then
     sh page/build.sh > "$work/page.log" 2>&1 || { cat "$work/page.log"; exit 1; }
     cp page/out/index.html "$dist/etherpeel-$version.html"
 else

@@ -1,9 +1,9 @@
 #!/usr/bin/env python3
 """Tests the page in a headless Chromium, as a user sees it.
 
-    python3 page/test.py [--proved] [--pictures FOLDER]
+    python3 page/test.py [--build proved|cargo] [--pictures FOLDER]
 
-Tests page/out/index.html, which `sh page/build.sh` makes; with --proved it is made first, over crates that are proved.
+Tests page/out/index.html, which `sh page/build.sh` makes; with --build it is made first, over crates that are proved or by cargo.
 With --pictures its states are saved as pictures, light and dark, wide and narrow. The last line is 'N passed, M
 failed'; without a browser (on Debian `apt-get install chromium`) a line says so, and nothing is tested.
 """
@@ -26,6 +26,7 @@ from user import (ENDING, INDEX, LINES, LIST, accessible, back, check, counts, d
                   save, state, text, told, tree, type_digits, write_expression)
 
 TOP = os.path.dirname(os.path.abspath(__file__))
+LACKING = 3  # the status of build.sh where what builds the page is missing
 
 
 def test_examples(page):
@@ -566,24 +567,24 @@ def pictures(page, target, folder):
                 page.picture(f"{target}/{state}-{scheme}-{size}.png")
 
 
-def build():
-    """Makes the page over crates that are proved."""
-    ran = subprocess.run(["sh", f"{TOP}/build.sh", "proved"], stdout=subprocess.PIPE, stderr=subprocess.STDOUT,
+def build(word):
+    """Makes the page over crates that are proved, or by cargo. Returns the status, and says what is wrong."""
+    ran = subprocess.run(["sh", f"{TOP}/build.sh", word], stdout=subprocess.PIPE, stderr=subprocess.STDOUT,
                          text=True, errors="replace")
     if ran.returncode:
-        print(ran.stdout)
-    return ran.returncode == 0
+        print(f"left out: {ran.stdout.strip()}" if ran.returncode == LACKING else ran.stdout)
+    return ran.returncode
 
 
 def main():
     words = argparse.ArgumentParser(description=__doc__.split("\n")[0])
-    words.add_argument("--proved", action="store_true")
+    words.add_argument("--build", choices=["proved", "cargo"])
     words.add_argument("--pictures", metavar="FOLDER")
     given = words.parse_args()
     if not browser():
         print("page: skipped: no Chromium is installed (on Debian: apt-get install chromium)")
-    elif given.proved and not build():
-        counts[False] += 1
+    elif given.build and (status := build(given.build)):
+        counts[False] += status != LACKING
     else:
         with Page() as page, tempfile.TemporaryDirectory() as folder:
             test_examples(page)

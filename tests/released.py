@@ -217,5 +217,6 @@ def check_completions():
 def check_scripts(work):
     check_library(work)
     check_completions()
-    status, said = run("sh", "page/build.sh", PATH=path_without(f"{work}/no_kit", "rt"))
-    check("the page without the kit", status == 1 and len(said.splitlines()) == 1 and "the Rattle kit" in said, said)
+    linkers = [f"wasm-ld-{version}" for version in range(10, 40)]
+    status, said = run("sh", "page/build.sh", PATH=path_without(f"{work}/no_kit", "rt", *linkers))
+    check("the page with nothing to build it", status == 3 and len(said.splitlines()) == 1 and "without the kit" in said, said)

@@ -46,7 +46,8 @@ COMMANDS = {
     "properties": [sys.executable, "rust/properties.py"],
     "other processors": [sys.executable, "rust/processors.py"],
     "figures": [sys.executable, "bench/figures.py"],
-    "page": [sys.executable, "page/test.py", "--proved"],
+    "page by cargo": [sys.executable, "page/test.py", "--build", "cargo"],
+    "page": [sys.executable, "page/test.py", "--build", "proved"],
     "release": [sys.executable, "tests/release.py"],
 }
 PARTS = ["proof", "with tests", "wrong bodies"]
