@@ -22,7 +22,7 @@ sys.dont_write_bytecode = True
 from counting import builds  # noqa: E402
 
 HERE = os.path.dirname(os.path.abspath(__file__))
-FIGURES, MINUTES, MEASURED = f"{HERE}/figures.txt", f"{HERE}/gate/minutes.txt", f"{builds.TOP}/docs/MEASURED.md"
+FIGURES, MEASURED = f"{HERE}/figures.txt", f"{builds.TOP}/docs/MEASURED.md"
 # A row, and how README.md says its numbers.
 TOLD = "walks/walk: mixed", "takes {} instructions in the proved walk, {} by cargo, and {} in C by hand"
 # Each group with what its rows are divided by.
@@ -116,13 +116,10 @@ def table(group, rows, above=0.0):
 
 
 def measured(rows):
-    """The text of docs/MEASURED.md with the table of each group that it names, and with the minutes of the gate."""
+    """The text of docs/MEASURED.md with the table of each group that it names."""
     with open(MEASURED, encoding="utf-8") as file:
         text = file.read()
-    with open(MINUTES, encoding="utf-8") as file:
-        minutes = file.read().rstrip("\n")
     between = r"(?:\n.*?)??\n(<!-- end -->)"
-    text = re.sub(r"(<!-- minutes -->)" + between, lambda m: f"{m[1]}\n\n{minutes}\n\n{m[2]}", text, flags=re.S)
     return re.sub(r"(<!-- figures: (\w+)(?: above ([\d.]+))? -->)" + between,
                   lambda m: f"{m[1]}\n\n{table(m[2], rows, float(m[3] or 0))}\n\n{m[4]}", text, flags=re.S)
 
@@ -136,10 +133,10 @@ def take(rows, groups):
 
 
 def tables():
-    """Whether the document has the minutes of the gate and a table of each group, and these and README.md have the figures."""
+    """Whether the document has a table of each group, and these and README.md have the figures."""
     with open(MEASURED, encoding="utf-8") as file:
         text = file.read()
-    missing = [name for name in ["minutes", *(f"figures: {group}" for group in GROUPS)] if not re.search(f"<!-- {name} .*-->", text)]
+    missing = [name for name in [f"figures: {group}" for group in GROUPS] if not re.search(f"<!-- {name} .*-->", text)]
     for name in missing:
         print(f"docs/MEASURED.md: it has no table <!-- {name} -->")
     same = not missing and text == measured(read())

@@ -4,7 +4,8 @@
     python3 docs/proved.py [--set]
 
 A line has the function's name, the first sentence of its documentation, and each clause by its name: the clause itself if it is short, or else
-the definitions that it cites, with the first sentence of their comments. What many functions cite is in a table of words. The function is public if
+the names of the definitions that it cites; and the first sentence of the comment on the definition at its head. What many functions cite is in a
+table of words. The function is public if
 the root of its crate hands it on; of a program, those of its modules `program`, `input_files` and `laws` are taken. Prints nothing if the page has these lines,
 and README.md and the page cite contracts as they are in the sources; else what is wrong, and ends with status 1. With --set it first writes the
 lines to the page.
@@ -25,15 +26,20 @@ MANY = 8  # functions that cite a definition, from which on its words are in the
 SHORT = 200  # columns of a clause that is shown itself
 
 
+def heads(text):
+    """The words of a clause that may be the definition at its head: the first one, and those after a binder or an arrow."""
+    return re.findall(r"(?:^|[.→⊎×(] ?)\(*([A-Z]\w*)", text)
+
+
 def clause(item, kind, name, text, told, common):
-    """A clause of a line: its name, and the definitions of its own that it cites, with their words; or itself if there are none, and it is short."""
-    own = [it for it in item.cited[kind, name] if it not in common]
-    if any(it in told for it in own):
-        shown = "; ".join(f"`{it[1]}`: {told[it]}" for it in own if it in told)
-    elif len(text) <= SHORT or not item.cited[kind, name]:
+    """A clause of a line: its name and itself, if it is short, or else the names that it cites; and the words of the definition at its head."""
+    cited = item.cited[kind, name]
+    if len(text) <= SHORT or not cited:
         shown = f"`{text}`"
     else:
-        shown = ", ".join(f"`{it[1]}`" for it in own or item.cited[kind, name])
+        shown = ", ".join(f"`{it[1]}`" for it in [it for it in cited if it not in common] or cited)
+    at_head = [it for it in cited if it in told and it not in common and it[1] in heads(text)]
+    shown = "; ".join([shown, *(f"`{it[1]}`: {told[it]}" for it in at_head)])
     return f"`{name}` ({shown})" if name else shown
 
 

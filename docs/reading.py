@@ -4,8 +4,8 @@ docs/PROVED.md with the sources (docs/proved.py), and the figures of README.md a
 
     python3 docs/reading.py [--set | ARTEFACT]
 
-A word is a definition of a file in a crate's specs/ folder; an artefact adds those that none before it reaches. Prints nothing if the pages have the
-right figures; else what is wrong, and ends with status 1. With --set it first writes the figures and the lines to the pages. With the title of a
+A word is a definition of a file in a crate's specs/ folder; an artefact adds those that none before it reaches. Prints the figures of each artefact,
+and what is wrong with the pages, if anything; then the status is 1. With --set it first writes the figures and the lines to the pages. With the title of a
 section of the page it prints its definitions as one text to read: file by file, each after those that it builds on."""
 import argparse
 import os
@@ -36,6 +36,8 @@ ARTEFACTS = {
     "Captures": ["ether_stream/src", "ether_capture/src"],
     "Bridges": ["ether_switch/src"],
     "C": ["ether_c/src"],
+    "Frames from text": ["ether_make/src/laws.rt"],
+    "The program that makes frames": ["ether_make/src"],
 }
 # How README.md says what it takes to believe the first artefact, and docs/TRUST.md how many faults are planted into what is written by hand.
 TOLD, PLANTED = "one reads {} definitions, {} lines", "| {} rows, {} of them with a reason |"
@@ -170,6 +172,8 @@ def main():
                 file.write(text)
         proved.set_lines()
     if given.artefact is None:
+        for title, count, lines, whole, _ in artefacts(found):
+            print(f"{title}: adds {count} definitions, {lines} lines; {whole} in all")
         return int(any([check(found), proved.is_wrong()]))
     try:
         print_text(found, next(added for name, *_, added in artefacts(found) if name == titles[given.artefact]))

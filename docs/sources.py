@@ -150,7 +150,8 @@ def documentation(lines, at):
         elif not line.startswith("#["):
             break
     text = "\n".join(told).split("\n\n")[0].replace("\n", " ")
-    return first_sentence(re.sub(r"\[(`[^`]+`|[^\]]+)\](?:\([^)]*\))?", r"\1", text))
+    links = r"\[(`[^`]+`)\](?:\([^)]*\))?|(`[^`]*`)|\[([^\]]+)\](?:\([^)]*\))?"
+    return first_sentence(re.sub(links, lambda it: it[1] or it[2] or it[3], text))
 
 
 def closing(text, at):
