@@ -30,8 +30,17 @@ from counts import examples as counts
 from formats import examples
 from programs import count, on_a_full_disk, run, run_apart, run_until_a_fault, without_memory
 
-USAGE = ("usage: ether_capture [[--plain | --format lines|brief|json [--bytes] | --fields COLUMNS [--format csv] [--header] | --stats [--fields COLUMNS | --by COLUMNS] [--format json]] [--limit N] [--status-on-fault yes|no] | --merge [--format json] | --write [-w COPY] [--cut-to-headers | --pop-vlan | --push-vlan TPID:ID | --set-vlan A:B]] "
-         "[--select EXPR [--undecided keep|drop]] [-c N] [--progress] [--jobs N] [-r FILE | FILE..]\n")
+USAGE = """usage: ether_capture [-r FILE | FILE..] [SELECTION] [--limit N] [--jobs N]
+                     [--progress] [--status-on-fault yes|no] [--plain |
+                     --format lines|brief|json [--bytes] | --fields COLUMNS
+                     [--format csv] [--header] | --stats [--fields COLUMNS |
+                     --by COLUMNS] [--format json]]
+       ether_capture [-r FILE | FILE] [SELECTION] [--jobs N] [--progress]
+                     --write | -w COPY [--cut-to-headers | --pop-vlan |
+                     --push-vlan TPID:ID | --set-vlan A:B]
+       ether_capture --merge [--format json]
+SELECTION is [--select EXPR [--undecided keep|drop]] [-c N].
+"""
 
 
 @dataclass

@@ -87,7 +87,7 @@ def failures(program, about):
     count = re.search(r"OptionRow<&str>; (\d+)\]", text(program.table))[1]
     yield None if len(rows) == int(count) else f"{program.table}: {len(rows)} rows of {count} have the form that is known here"
     yield None if lines(program) in about else f"{program.help}: the options are not those of the table: run tests/options.py --set"
-    usage, items = about.partition("usage: ")[2].partition("\n")[0], set(page_items(program))
+    usage, items = about.partition("usage: ")[2].partition("\n\n")[0], set(page_items(program))
     for _, written, value, _, _ in rows:
         yield None if len(written) > 1 or any(re.search(rf"{it}(?![\w-])", usage) for it in written) else f"{program.help}: the usage lacks {written[0]}"
         item = (", ".join(written) + value).replace(" ", "")

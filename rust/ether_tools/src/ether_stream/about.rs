@@ -3,7 +3,16 @@
 /// What `--help` prints, without its last LF. The lines of the options are made of the table of options of
 /// `ether_capture`, by `tests/options.py --set`.
 pub const HELP: &str =
-    "usage: ether_capture [[--plain | --format lines|brief|json [--bytes] | --fields COLUMNS [--format csv] [--header] | --stats [--fields COLUMNS | --by COLUMNS] [--format json]] [--limit N] [--status-on-fault yes|no] | --merge [--format json] | --write [-w COPY] [--cut-to-headers | --pop-vlan | --push-vlan TPID:ID | --set-vlan A:B]] [--select EXPR [--undecided keep|drop]] [-c N] [--progress] [--jobs N] [-r FILE | FILE..]
+    "usage: ether_capture [-r FILE | FILE..] [SELECTION] [--limit N] [--jobs N]
+                     [--progress] [--status-on-fault yes|no] [--plain |
+                     --format lines|brief|json [--bytes] | --fields COLUMNS
+                     [--format csv] [--header] | --stats [--fields COLUMNS |
+                     --by COLUMNS] [--format json]]
+       ether_capture [-r FILE | FILE] [SELECTION] [--jobs N] [--progress]
+                     --write | -w COPY [--cut-to-headers | --pop-vlan |
+                     --push-vlan TPID:ID | --set-vlan A:B]
+       ether_capture --merge [--format json]
+SELECTION is [--select EXPR [--undecided keep|drop]] [-c N].
 
 Prints the link-layer headers of each packet of captures, pcap or pcapng: of each FILE, or of standard input, which a FILE of - also names. What can't be read or written is said on standard error.
 
