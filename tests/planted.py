@@ -1,14 +1,14 @@
 """Plants faults into what is written by hand, and says which of them the tests do not see.
 
-    python3 tests/planted.py [WORD]
+    python3 tests/planted.py [--check | WORD]
 
-WORD picks the faults whose file or name has it. The faults are in `planted_faults.py`. Those in C and Rust are all in one build, which has
+With --check it plants none, and says which rows name a text that is not there, or not once. WORD picks the faults whose file or name has it. The faults are in `planted_faults.py`. Those in C and Rust are all in one build, which has
 the one whose number the variable PLANTED is; of those in Python and of the page there is a copy each. Of each fault the tests of its file
 are run, the cheapest first, up to the first that fails. A fault that none sees is printed; it counts as failed unless its row says why no
 test can see it.
 
 Needs cargo and gcc; the switch needs what `network.py` needs, the page a browser and page/out/index.html, which `sh page/build.sh` makes. What
-is missing is left out, and a line says so. It takes some ten minutes, and is no part of the gate. The last line is 'N passed, M failed'.
+is missing is left out, and a line says so. It takes some ten minutes, and only --check is a part of the gate. The last line is 'N passed, M failed'.
 """
 
 import argparse
@@ -51,12 +51,28 @@ fn planted(number: u32) -> bool {
 
 # ---- planting
 
-def replaced(text, fault, new):
-    """A text with something else in the place of a fault's old text, which occurs once, or once within the fault's context."""
+def misplaced(text, fault):
+    """What is wrong if a fault's old text does not occur once in a text, or once within the fault's context that does; else None."""
     around = fault.within or fault.old
-    if text.count(around) != 1 or around.count(fault.old) != 1:
-        sys.exit(f"{fault.file}: {fault.name}: {around!r} occurs {text.count(around)} times")
+    if text.count(around) == around.count(fault.old) == 1:
+        return None
+    return f"{fault.file}: {fault.name}: {around!r} occurs {text.count(around)} times"
+
+
+def replaced(text, fault, new):
+    """A text with something else in the place of a fault's old text."""
+    around = fault.within or fault.old
+    if wrong := misplaced(text, fault):
+        sys.exit(wrong)
     return text.replace(around, around.replace(fault.old, new))
+
+
+def check():
+    """Says which rows name a text that is not there, and returns the status."""
+    found = [misplaced(read(f"{TOP}/{fault.file}"), fault) for fault in FAULTS]
+    failed = [it for it in found if it]
+    print(*failed, f"{len(found) - len(failed)} passed, {len(failed)} failed", sep="\n")
+    return 1 if failed else 0
 
 
 def switched(faults):
@@ -217,7 +233,11 @@ def tried(trial, numbered):
 def main():
     words = argparse.ArgumentParser(description=__doc__, formatter_class=argparse.RawDescriptionHelpFormatter)
     words.add_argument("word", metavar="WORD", nargs="?", default="")
-    word = words.parse_args().word
+    words.add_argument("--check", action="store_true")
+    given = words.parse_args()
+    if given.check:
+        return check()
+    word = given.word
     numbered = [it for it in enumerate(FAULTS, 1) if word in it[1].file or word in it[1].name]
     for path in sorted({fault.file for _, fault in numbered}):
         if why := left_out(path):

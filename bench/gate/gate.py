@@ -27,6 +27,7 @@ COMMANDS = {
     "bindings": [sys.executable, "c/bindings.py", "--check"],
     "options": [sys.executable, "tests/options.py"],
     "scripts": [sys.executable, "tests/scripts.py"],
+    "planted": [sys.executable, "tests/planted.py", "--check"],
     "manual pages": [sys.executable, "tests/manual_pages.py"],
     "first commands": [sys.executable, "tests/first_commands.py"],
     "rust": [sys.executable, "rust/test.py"],

@@ -108,7 +108,7 @@ def many(content, expected):
     records = b"".join(struct.pack(">IIII", number, 0, 0, number % 7) for number in range(10_000))
     long = etherpeel.open(front + records)
     check("more than one call", [it.time_ns // 10**9 for it in etherpeel.select("greater 6", long)], list(range(6, 10_000, 7)))
-    check("all of many", sum(1 for _ in etherpeel.select("greater 0", long)), 10_000)
+    check("one after the last of a call", [it.original_len for it in etherpeel.select("greater 1", long)], [it % 7 for it in range(10_000) if it % 7])
     check("many marks", [at for at, mark in enumerate(Filter("greater 6").select(long)) if mark], list(range(6, 10_000, 7)))
 
 
