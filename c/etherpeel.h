@@ -1345,9 +1345,10 @@ uint32_t etherpeel_rows(const etherpeel_captured *packets, size_t count, etherpe
  * again with that many bytes at least. If there are no more, the file is cut short; but if `len` is
  * 0, and reader->state is not ETHERPEEL_READER_BEGINNING, it is complete. A unit needs at most
  * 16 MiB.
- * Returns ETHERPEEL_BAD_CAPTURE if the unit can't be read, however many bytes follow, or if it
- * describes an interface for which the array has no room. After these two statuses only *unit is
- * set, and all of it is 0 except for `needed`.
+ * Returns ETHERPEEL_NO_ROOM if the unit describes an interface for which the array has no room:
+ * call again with a longer array that begins with the same elements. Returns
+ * ETHERPEEL_BAD_CAPTURE if the unit can't be read, however many bytes follow. After these three
+ * statuses only *unit is set, and all of it is 0 except for `needed`.
  * Returns ETHERPEEL_BAD_FIELD if reader->state is not a number of enum etherpeel_reader_state, or
  * reader->interface_count is above `room`, and then writes nothing. All other values are taken as
  * they are, also if no call has written them.
@@ -1362,9 +1363,10 @@ uint32_t etherpeel_reader_read(etherpeel_reader *reader, etherpeel_interface *in
 
 /* etherpeel_reader_fault_text - why the unit at the front of bytes can't be read, in English
  *
- * Takes what was passed to a call of etherpeel_reader_read that returned ETHERPEEL_SHORT or
- * ETHERPEEL_BAD_CAPTURE. Writes the text to the front of `text`, in ASCII with no 0 byte at its
- * end. *text_len is its length, fewer than 512 bytes; it is 0 if the unit can be read.
+ * Takes what was passed to a call of etherpeel_reader_read that returned ETHERPEEL_SHORT,
+ * ETHERPEEL_NO_ROOM or ETHERPEEL_BAD_CAPTURE. Writes the text to the front of `text`, in ASCII with
+ * no 0 byte at its end. *text_len is its length, fewer than 512 bytes; it is 0 if the unit can be
+ * read.
  * Returns ETHERPEEL_DONE; ETHERPEEL_NO_ROOM if `text_room` is smaller than *text_len, and then
  * `text` is unchanged; or ETHERPEEL_BAD_FIELD if etherpeel_reader_read would, and then nothing is
  * written. ETHERPEEL_NO_TEXT is not ruled out by proof; after it *text_len is 0, and `text` is

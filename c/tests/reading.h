@@ -269,7 +269,7 @@ static void units_that_are_refused(void) {
     CHECK(read_next(&r, 1, TWO_SECTIONS + 28, 52) == ETHERPEEL_DONE &&
           r.reader.interface_count == 1);
     before = r;
-    CHECK(read_next(&r, 1, TWO_SECTIONS + 80, 20) == ETHERPEEL_BAD_CAPTURE &&
+    CHECK(read_next(&r, 1, TWO_SECTIONS + 80, 20) == ETHERPEEL_NO_ROOM &&
           is_unread(&r, &before, 0));
     CHECK(says(&r, 1, TWO_SECTIONS + 80, 20,
                "A section of a pcapng file describes more interfaces than this reader keeps."));

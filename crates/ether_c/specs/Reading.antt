@@ -1,7 +1,7 @@
 -- Capture files that are read unit by unit, for calls from C.
 use Rattle.std.specs.Prelude.{◌≡◌, ◌≤◌, ◌⊎◌, ℕ, ◌+◌, List, length, map, take, slice_set, Option, Some, None, unwrap_or, is_some, Result, IfOk, IfErr, IfSome, IfNone, nat_eq, nat_le, if◌then◌else◌}
 use Rattle.std.specs.Option.{option_map}
-use Rattle.ether_pcap.specs.Capture.{PacketValue, CaptureExpectation, CaptureRefusal, Begins, RefusesCapture, required_len}
+use Rattle.ether_pcap.specs.Capture.{PacketValue, CaptureExpectation, CaptureRefusal, TooManyInterfaces, Begins, RefusesCapture, required_len}
 use Rattle.ether_pcap.specs.CaptureViews.{capture_refusal_view, expectation_of}
 use Rattle.ether_pcap.specs.CaptureTexts.{capture_error_text}
 use Rattle.ether_pcap.specs.ReadUnits.{HasRoom, interfaces_after, packet_in, state_after}
@@ -21,7 +21,7 @@ use Rattle.ether_c.specs.declared.ether_captured.EtherCaptured.{EtherCaptured}
 use Rattle.ether_c.specs.declared.ether_interface.EtherInterface.{EtherInterface}
 use Rattle.ether_c.specs.declared.ether_read_unit.EtherReadUnit.{EtherReadUnit}
 use Rattle.ether_c.specs.declared.ether_reader.EtherReader.{EtherReader}
-use Rattle.ether_c.specs.Numbers.{done, no_text}
+use Rattle.ether_c.specs.Numbers.{done, no_room, no_text}
 use Rattle.ether_c.specs.Calls.{PutsBytes}
 use Rattle.ether_c.specs.Captured.{HoldsPacket, capture_status}
 use Rattle.ether_c.specs.Selection.{marked}
@@ -189,6 +189,11 @@ pub record ReadsOne (bytes : List ℕ) (x : CaptureExpectation) (old new : Ether
   pub given : unit ≡ c_read_unit unit.len (packet_in content)
   pub status_is : status ≡ done
 
+-- the status for a refusal: an array that has no room for an interface is the caller's
+abbrev pub refusal_status : CaptureRefusal → ℕ
+refusal_status TooManyInterfaces = no_room
+refusal_status refusal = capture_status (required_len refusal)
+
 -- Bytes do not begin with a unit that is expected. Nothing is written but the number of bytes that it needs.
 pub record RefusesOne (bytes : List ℕ) (x : CaptureExpectation) (old new : EtherReader)
     (old_table table : List EtherInterface) (packet_old packet_new : EtherCaptured) (unit : EtherReadUnit)
@@ -199,7 +204,7 @@ pub record RefusesOne (bytes : List ℕ) (x : CaptureExpectation) (old new : Eth
   pub same_table : table ≡ old_table
   pub same_packet : packet_new ≡ packet_old
   pub given : unit ≡ c_refused_unit (required_len refusal)
-  pub status_is : status ≡ capture_status (required_len refusal)
+  pub status_is : status ≡ refusal_status refusal
 
 abbrev pub GivesUnit : (bytes : List ℕ) → CaptureExpectation → (old new : EtherReader)
     → (old_table table : List EtherInterface) → (packet_old packet_new : EtherCaptured) → EtherReadUnit → (status : ℕ)

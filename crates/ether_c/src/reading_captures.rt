@@ -1,13 +1,11 @@
 //! Reads a capture file unit by unit.
 ghost use Rattle.std.specs.Prelude.{◌≡◌, ◌≤◌, length, map, None, IfSome, IfNone, IsTrue, IsFalse};
-ghost use Rattle.ether_pcap.specs.Capture.{required_len};
 ghost use Rattle.ether_pcap.specs.CaptureViews.{capture_refusal_view};
 ghost use Rattle.ether_pcap.specs.ReadUnits.{HasRoom, IsFull, packet_in};
-ghost use Rattle.ether_c.specs.Captured.{capture_status};
-ghost use Rattle.ether_c.specs.Reading.{expected_by, interface_of, interfaces_of, GivesUnit, Keeps, PutsPacket, Reads};
+ghost use Rattle.ether_c.specs.Reading.{expected_by, interface_of, interfaces_of, GivesUnit, Keeps, PutsPacket, Reads, refusal_status};
 ghost use Rattle.ether_c.specs.Tags.{bad_field};
 
-use crate::statuses::{BAD_CAPTURE, BAD_FIELD, DONE, SHORT};
+use crate::statuses::{BAD_CAPTURE, BAD_FIELD, DONE, NO_ROOM, SHORT};
 use crate::{EtherCaptured, EtherInterface, EtherReadUnit, EtherReader};
 use ether_pcap::{CaptureError, CaptureInterface, DescribedInterfaces, ReadUnit, UnitContent};
 
@@ -117,11 +115,11 @@ fn put<'a>(packet: &mut EtherCaptured<'a>, content: UnitContent<'a>)
 
 /// The status for a unit that can't be read.
 fn status_of(error: &CaptureError) -> u32
-    ensures { result ≡ capture_status (required_len (capture_refusal_view error.now)) }
+    ensures { result ≡ refusal_status (capture_refusal_view error.now) }
 {
-    if error.required_len().is_some() {
-        SHORT
-    } else {
-        BAD_CAPTURE
+    match error {
+        CaptureError::TooManyInterfaces => NO_ROOM,
+        _ if error.required_len().is_some() => SHORT,
+        _ => BAD_CAPTURE,
     }
 }

@@ -1,6 +1,6 @@
 //! Reads a capture file unit by unit.
 
-use crate::statuses::{BAD_CAPTURE, BAD_FIELD, DONE, SHORT};
+use crate::statuses::{BAD_CAPTURE, BAD_FIELD, DONE, NO_ROOM, SHORT};
 use crate::{EtherCaptured, EtherInterface, EtherReadUnit, EtherReader};
 use etherpeel::ether_pcap::{CaptureError, CaptureInterface, DescribedInterfaces, ReadUnit, UnitContent};
 
@@ -103,9 +103,9 @@ fn put<'a>(packet: &mut EtherCaptured<'a>, content: UnitContent<'a>) {
 
 /// The status for a unit that can't be read.
 fn status_of(error: &CaptureError) -> u32 {
-    if error.required_len().is_some() {
-        SHORT
-    } else {
-        BAD_CAPTURE
+    match error {
+        CaptureError::TooManyInterfaces => NO_ROOM,
+        _ if error.required_len().is_some() => SHORT,
+        _ => BAD_CAPTURE,
     }
 }
