@@ -140,6 +140,31 @@ def ageing(switches):
         ends["d3"].send(ALL + STATION + BODY)
     counts = switches.settled("left", 3, 54)
     yield "a storm", (counts["d3"].get("discarded (storm)"), len(switches.left()["d1"])), (40, 10)
+    for _ in range(50):
+        ends["d2"].send(STATION + OTHER + BODY)
+    counts = switches.settled("left", 3, 104)
+    yield "frames to one station are no storm", (counts["d2"].get("discarded (storm)"), len(switches.left()["d3"])), (None, 50)
+
+
+def keys(switches):
+    """With as many VLANs as there may be, each has room for 64 stations, in buckets by a key that is drawn: of 64 some push others out, and
+    in two runs not the same."""
+    words = [f"{name}:tagged={','.join(map(str, range(1, 4095)))}" for name in ("f1", "f2", "f3")]
+    forgotten = []
+    for _ in range(2):
+        switches.start("left", words, ["f1", "f2", "f3"])
+        for number in range(64):
+            switches.ends["f1"].send(ALL + source(number) + tag(5) + BODY)
+        switches.settled("left", 3, 64)
+        switches.left()
+        for number in range(64):
+            switches.ends["f2"].send(source(number) + STATION + tag(5) + BODY)
+        switches.settled("left", 3, 128)
+        forgotten.append(switches.left().get("f3", []))
+        switches.stop()
+        switches.open, switches.ends = [], {}
+    yield "stations that were pushed out", [0 < len(it) < 64 for it in forgotten], [True, True]
+    yield "the same ones in another run", forgotten[0] == forgotten[1], False
 
 
 def tcp(switches, with_ovs):
@@ -220,7 +245,7 @@ class OpenVSwitch:
 
 def attacked(network, switch, tools):
     """What is tried; `tools` is the module `network`."""
-    parts = [hopping, flooding, ageing, lambda it: tcp(it, False)]
+    parts = [hopping, flooding, ageing, keys, lambda it: tcp(it, False)]
     if shutil.which("ovs-vswitchd"):
         parts.append(lambda it: tcp(it, True))
     for part in parts:

@@ -6,7 +6,7 @@ import time
 
 # The ports: two trunks, one of them for one VLAN, an access port, and one with a VLAN of its own beside a tagged one.
 PORTS = {1: "tagged=10", 2: "pvid=20:tagged=10", 3: "pvid=10", 4: "tagged=10,20"}
-ALL, STATION, OTHER = "ffffffffffff", "020000000001", "020000000002"
+ALL, STATION, OTHER, STRANGER = "ffffffffffff", "020000000001", "020000000002", "020000000009"
 BODY = "88b5" + "00" * 46
 # The name of a frame, the port through which it comes in, the frame, what leaves through which port, and what is counted there (IEEE 802.1Q, 6.9, 8.6, 9.6).
 ROWS = [
@@ -26,7 +26,8 @@ ROWS = [
     ("from a group", 3, f"{ALL}030000000001{BODY}", {}, "source"),
     ("to a reserved address", 3, f"0180c2000003{STATION}{BODY}", {}, "reserved address"),
 ]
-BURST = 1_000
+BURST, FLOOD = 1_000, 5_000
+LOST = "lost before they were read"
 
 
 def total(counts, words="received"):
@@ -66,6 +67,20 @@ class Bridge:
             pass
         return self.since(before)
 
+    def after_at_once(self, port, frames):
+        """The same of frames of one port that come in while the switch stands still."""
+        before = self.numbers()
+        self.program.send_signal(signal.SIGSTOP)
+        for frame in frames:
+            self.ends[port].send(frame)
+        self.program.send_signal(signal.SIGCONT)
+        end = time.monotonic() + 5
+        while time.monotonic() < end:
+            counts = self.since(before)
+            if sum(counts[port].get(words, 0) for words in ("received", LOST)) == len(frames):
+                break
+        return counts
+
     def since(self, before):
         """What is counted besides what was counted before."""
         return {port: {words: it[words] - before[port].get(words, 0) for words in it if it[words] != before[port].get(words, 0)}
@@ -99,6 +114,10 @@ def long_frames(bridge):
         1: {"not sent (longer than the MTU)": 1}, 2: {"sent": 1}, 3: {"received": 1}, 4: {"sent": 1}}
     yield "a full frame with a service tag: what leaves", {port: [len(it) // 2 for it in found] for port, found in bridge.left().items()}, {
         port: [1522] for port in (2, 4)}
+    counts = bridge.after_at_once(3, [service, bytes.fromhex(ALL + STATION + BODY)])
+    yield "one frame is not sent, and the next one is", counts, {
+        1: {"not sent (longer than the MTU)": 1, "sent": 1}, 2: {"sent": 2}, 3: {"received": 2}, 4: {"sent": 2}}
+    bridge.left()
     bridge.network.do("left", "ip", "link", "set", "r1", "mtu", "9500")
 
 
@@ -148,13 +167,15 @@ def sent_by_the_host(bridge):
 def interface_down(bridge):
     """A port that goes down: frames do not leave by it, and its stations are forgotten. Then it is back, or made anew."""
     frame = bytes.fromhex(f"{OTHER}{STATION}{BODY}")
-    bridge.after((1, bytes.fromhex(f"{ALL}{OTHER}8100000a{BODY}")))
+    bridge.after((1, bytes.fromhex(f"{ALL}{OTHER}8100000a{BODY}")), (4, bytes.fromhex(f"{ALL}{STRANGER}8100000a{BODY}")))
     bridge.left()
     bridge.after((3, frame))
     yield "to a station at a port that is up", sorted(bridge.left()), [1]
     bridge.network.do("left", "ip", "link", "set", "r1", "down")
     bridge.after((3, frame))
     yield "to a station at a port that went down", sorted(bridge.left()), [2, 4]
+    bridge.after((3, bytes.fromhex(f"{STRANGER}{STATION}{BODY}")))
+    yield "to a station at another port", sorted(bridge.left()), [4]
     counts = bridge.after((3, bytes.fromhex(f"{ALL}{STATION}{BODY}")))
     yield "a port that is down: what is counted", counts, {1: {}, 2: {"sent": 1}, 3: {"received": 1}, 4: {"sent": 1}}
     yield "a port that is down: what leaves", sorted(bridge.left()), [2, 4]
@@ -169,12 +190,28 @@ def interface_down(bridge):
     yield "a port that was made again", sorted(bridge.left()), [1, 2, 4]
 
 
+def without_carrier(bridge):
+    """A port whose link is down at the other end."""
+    bridge.network.do("right", "ip", "link", "set", "e1", "down")
+    counts = bridge.after((3, bytes.fromhex(f"{ALL}{STATION}{BODY}")))
+    yield "a port without a carrier: what is counted", counts, {1: {}, 2: {"sent": 1}, 3: {"received": 1}, 4: {"sent": 1}}
+    bridge.network.do("right", "ip", "link", "set", "e1", "up")
+    bridge.left()
+
+
+def flood(bridge):
+    """More frames than the kernel keeps while the switch stands still: each is received, or counted as lost."""
+    counts = bridge.after_at_once(3, [bytes.fromhex(ALL + STATION + "88b5").ljust(9514, b"\1")] * FLOOD)[3]
+    yield "frames that the kernel dropped", (counts.get(LOST, 0) > 0, counts["received"] + counts.get(LOST, 0)), (True, FLOOD)
+    bridge.left()
+
+
 def forwarded(network, switch, tools):
     """What is tried; `tools` is the module `network`."""
     bridge = Bridge(network, switch, tools)
     yield "the switch with four ports starts", bridge.said, "switch: 4 ports\n"
     yield "each port hears all stations", [network.promiscuity("left", f"r{port}") for port in PORTS], [1] * len(PORTS)
-    for part in (rows, long_frames, burst, stations, sent_by_the_host, interface_down):
+    for part in (rows, long_frames, burst, flood, stations, sent_by_the_host, without_carrier, interface_down):
         yield from part(bridge)
     for port, one in bridge.ends.items():
         one.close()

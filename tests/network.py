@@ -99,6 +99,14 @@ class Network:
         self.programs[space] = subprocess.Popen(words, stdout=subprocess.PIPE, text=True)
         return self.programs[space].stdout.readline()
 
+    def said(self, space, switch, ports):
+        """What a switch says on standard error until it has its sockets."""
+        words = ["ip", "netns", "exec", self.name(space), switch, *ports]
+        with subprocess.Popen(words, stdout=subprocess.PIPE, stderr=subprocess.PIPE, text=True) as program:
+            program.stdout.readline()
+            program.terminate()
+            return program.communicate()[1]
+
     def link(self, one, first, other, second):
         """Links two namespaces by interfaces that send nothing of their own, with room for long frames."""
         run("ip", "link", "add", first, "netns", self.name(one), "type", "veth", "peer", "name", second, "netns", self.name(other))
@@ -160,7 +168,7 @@ def numbers(network, space, ports=3):
     return found
 
 
-def tried_in(network):
+def tried_in(network, switch):
     """What is tried in a network whose switches run, and what is wanted of it."""
     apart, at_trunk = network.socket("h2", "eth"), network.socket("left", "trunk")
     yield "ping in VLAN 5, over the trunk", network.ping("h1", "h3"), True
@@ -195,6 +203,7 @@ def tried_in(network):
     network.programs["left"].send_signal(signal.SIGTERM)
     yield "numbers at the end", numbers(network, "left")["p1"]["received"] >= asked["p1"]["received"], True
     yield "the status at the end", network.programs["left"].wait(5), 0
+    yield "an interface with an address", network.said("h1", switch, ["eth:pvid=5"]), "switch: eth: has an address, so the host answers there\n"
 
 
 def tagged_frames(one):
@@ -266,7 +275,7 @@ def main():
             if not switch:
                 return count([("the switch is built", False, True)])
             started = [(f"the switch {space} starts", network.start(space, switch, WORDS[space]), "switch: 3 ports\n") for space in WORDS]
-            tried = [*started, *tried_in(network)]
+            tried = [*started, *tried_in(network, switch)]
             tried += forwarded(network, switch, sys.modules[__name__])
             tried += attacked(network, switch, sys.modules[__name__])
             return count([*tried, *compared(network, switch, os.path.realpath(given.example))])
