@@ -16,6 +16,7 @@ pub mod Lines
 pub mod LineViews
 pub mod Captures
 pub mod CheckSequences
+pub mod CheckSteps
 pub mod Divisions
 pub mod Outputs
 pub mod Serial

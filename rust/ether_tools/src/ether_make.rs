@@ -6,6 +6,7 @@ pub mod about;
 pub mod bits;
 pub mod capture;
 pub mod check_sequence;
+mod check_tables;
 pub mod field_bits;
 pub mod frame;
 pub mod header;
