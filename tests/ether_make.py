@@ -11,6 +11,7 @@ import argparse
 import json
 import os
 import resource
+import select
 import shutil
 import struct
 import subprocess
@@ -66,6 +67,8 @@ ADDRESSES = "00005e000101" "020000000001"
 FRAMES = [
     Frame("no line", "", []),
     Frame("an empty line means nothing", "\n\n", []),
+    Frame("a line of whitespace means nothing (RFC 8259, 2)", " \n\t\n\r\n \t \r", []),
+    Frame("lines that end in a carriage return", line(ETH).replace("\n", "\r\n") + "\r\n" + line(ETH).replace("\n", "\r\n"), [ADDRESSES + "0000"] * 2),
     Frame("no header", line(), [""]),
     Frame("a header with nothing given", line({"header": "eth"}), ["00" * 14]),
     Frame("addresses (IEEE 802.3, 3.2)", line({**ETH, "type": 0x0800}), [ADDRESSES + "0800"]),
@@ -246,7 +249,9 @@ REFUSED = [
     Refused("an object over two lines", '{"headers":\n[]}\n', "line 1: this is no JSON text"),
     Refused("a comment", "// []\n", "line 1: this is no JSON text"),
     Refused("a number in hexadecimal", '{"headers":[{"header":"eth","type":0x800}]}\n', "line 1: this is no JSON text"),
-    Refused("a line of spaces", "  \n", "line 1: this is no JSON text"),
+    Refused("whitespace that JSON does not have (RFC 8259, 2)", " \f\n", "line 1: this is no JSON text"),
+    Refused("a no-break space", "\u00a0\n", "line 1: this is no JSON text"),
+    Refused("the line's number counts blank lines", " \n\r\nx\n", "line 3: this is no JSON text"),
     Refused("a time with 33 bits", line(time="2106-02-07T06:28:16Z"), "line 1: time is a time before 1970 or after 7 February 2106"),
     Refused("a time before 1970", line(time="1969-12-31T23:59:59.999999999Z"), "line 1: time is a time before 1970 or after 7 February 2106"),
     Refused("the year 0", line(time="0000-01-01T00:00:00Z"), "line 1: time is a time before 1970 or after 7 February 2106"),
@@ -400,6 +405,36 @@ def word_cases(program):
     yield "a folder", (done.stdout, done.stderr, done.returncode), (capture_of([]), b"ether_make: standard input: Is a directory (os error 21)\n", 4)
     for words, wrong in WRONG_WORDS.items():
         yield f"wrong words: {words}", said(*words.split()), ("", f"ether_make: {wrong}\n", 2)
+
+
+def live_cases(program):
+    """What is made of a line is written before the program waits for more."""
+    with subprocess.Popen([program, "--hex"], stdin=subprocess.PIPE, stdout=subprocess.PIPE, bufsize=0) as child:
+        for name, written, lines in (
+            ("a line", line(ETH), 1), ("the next line", line(ETH), 1), ("two lines and a part", line(ETH) * 2 + line(ETH)[:20], 2),
+            ("the other part", line(ETH)[20:], 1), ("more lines than a buffer has", line(ETH) * 500, 500), ("a blank line and one", "\n" + line(ETH), 1),
+        ):
+            child.stdin.write(written.encode())
+            wanted = (ADDRESSES + "0000\n") * lines
+            yield f"live: {name}", read_soon(child.stdout, len(wanted)), wanted
+        child.stdin.close()
+        yield "live: the end", (read_soon(child.stdout, 1), child.wait()), ("", 0)
+    with subprocess.Popen([program], stdin=subprocess.PIPE, stdout=subprocess.PIPE, bufsize=0) as child:
+        child.stdin.write(line(ETH).encode())
+        wanted = capture_of([bytes.fromhex(ADDRESSES + "0000")]).decode("latin-1")
+        yield "live: a capture", read_soon(child.stdout, len(wanted)), wanted
+        child.stdin.close()
+
+
+def read_soon(pipe, count_of_bytes, seconds=5):
+    """So many bytes of a pipe, or those that are there after some seconds."""
+    read = b""
+    while len(read) < count_of_bytes and select.select([pipe], [], [], seconds)[0]:
+        more = os.read(pipe.fileno(), count_of_bytes - len(read))
+        if not more:
+            break
+        read += more
+    return read.decode("latin-1")
 
 
 def scapy_cases(program):
@@ -594,7 +629,7 @@ def main():
     folder = os.path.dirname(given.program)
     built = os.path.join(folder, "..", "..", "ether_capture", "out", "ether_capture"), os.path.join(folder, "ether_capture")
     capture = given.capture or next((it for it in built if os.path.exists(it)), built[0])
-    cases = [*frame_cases(given.program), *memory_cases(given.program), *padded_cases(given.program), *checked_cases(given.program), *hex_cases(given.program), *refused_cases(given.program), *word_cases(given.program), *file_cases(given.program),
+    cases = [*frame_cases(given.program), *memory_cases(given.program), *padded_cases(given.program), *checked_cases(given.program), *hex_cases(given.program), *refused_cases(given.program), *word_cases(given.program), *live_cases(given.program), *file_cases(given.program),
              *scapy_cases(given.program), *tshark_cases(given.program),
              *printed_cases(given.program, capture), *exact_cases(given.program, capture), *range_cases(given.program), *sent_cases(given.program)]
     return count((name, got, wanted) for name, got, wanted in cases if given.word in name)

@@ -1,6 +1,6 @@
 -- The frames that lines of text mean.
-use Rattle.std.specs.Prelude.{◌≡◌, ◌==◌, ℕ, ◌+◌, ◌-◌, ◌<◌, ◌^◌, ◌&&◌, List, [], ◌∷◌, ◌++◌, length, codes, Bool, true, false, Option, Some, None, unwrap_or, Result, Ok, Err, nat_eq, nat_lt, IsUtf8, if◌then◌else◌}
-use Rattle.std.specs.List.{slice_split}
+use Rattle.std.specs.Prelude.{◌≡◌, ◌==◌, ℕ, ◌+◌, ◌-◌, ◌<◌, ◌^◌, ◌&&◌, ◌||◌, List, [], ◌∷◌, ◌++◌, length, codes, Bool, true, false, Option, Some, None, unwrap_or, Result, Ok, Err, nat_eq, nat_lt, IsUtf8, if◌then◌else◌}
+use Rattle.std.specs.List.{list_all, slice_split}
 use Rattle.serde_json.specs.Data.{Data}
 use Rattle.serde_json.specs.Read.{read}
 use Rattle.ether_make.specs.declared.refusal.Reason.TheVariants.{OtherFrames, OtherTime}
@@ -48,6 +48,14 @@ pub data LineMeans (link : Option ℕ) (text : List ℕ) : Result TemplateValue 
 -- the lines of a text: a line feed (10) is between two
 abbrev pub lines_in : List ℕ → List (List ℕ)
 lines_in text = slice_split (λ c. c == 10) text
+
+-- a space, a tab or a carriage return: whitespace of a JSON text (RFC 8259, 2) that a line can have
+abbrev pub is_space : ℕ → Bool
+is_space c = c == 32 || (c == 9 || c == 13)
+
+-- a line with nothing but whitespace
+abbrev pub is_blank : List ℕ → Bool
+is_blank line = list_all is_space line
 
 -- ---- one line after another
 
@@ -118,20 +126,20 @@ pub data Refuses (settings : Settings) (progress : Progress) (text : List ℕ) :
       → Refuses settings progress text (Object (refusal None (codes "time") OtherTime))
 
 -- Lines, the first with this number, mean these frames after what lines before left, to the end or to a line that is
--- refused; and they leave something themselves. An empty line means nothing.
+-- refused; and they leave something themselves. A blank line means nothing.
 pub data LinesMean (settings : Settings)
     : (number : ℕ) → (first last : Progress) → (lines : List (List ℕ)) → (frames : List FrameValue)
     → Option (ℕ × LineRefusal) → Type 0 where
   none : (number : ℕ) (progress : Progress) → LinesMean settings number progress progress [] [] None
-  empty : (number : ℕ) (progress last : Progress) (lines : List (List ℕ)) (frames : List FrameValue)
-      (stop : Option (ℕ × LineRefusal))
-      → LinesMean settings (number + 1) progress last lines frames stop
-      → LinesMean settings number progress last ([] ∷ lines) frames stop
+  blank : (number : ℕ) (progress last : Progress) (line : List ℕ) (lines : List (List ℕ))
+      (frames : List FrameValue) (stop : Option (ℕ × LineRefusal))
+      → is_blank line ≡ true → LinesMean settings (number + 1) progress last lines frames stop
+      → LinesMean settings number progress last (line ∷ lines) frames stop
   some : (number : ℕ) (progress last : Progress) (line : List ℕ) (t : TemplateValue) (lines : List (List ℕ))
       (frames : List FrameValue) (stop : Option (ℕ × LineRefusal))
-      → 0 < length line → LineMeans progress.link line (Ok t) → is_timely settings progress t ≡ true
+      → is_blank line ≡ false → LineMeans progress.link line (Ok t) → is_timely settings progress t ≡ true
       → LinesMean settings (number + 1) (after settings progress t) last lines frames stop
       → LinesMean settings number progress last (line ∷ lines) (frames_of settings progress t ++ frames) stop
   refused : (number : ℕ) (progress : Progress) (line : List ℕ) (lines : List (List ℕ)) (r : LineRefusal)
-      → 0 < length line → Refuses settings progress line r
+      → is_blank line ≡ false → Refuses settings progress line r
       → LinesMean settings number progress progress (line ∷ lines) [] (Some (number, r))
