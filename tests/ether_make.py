@@ -10,6 +10,7 @@ captures with what tshark reads in them. The last line is 'N passed, M failed'.
 import argparse
 import json
 import os
+import re
 import resource
 import select
 import shutil
@@ -68,6 +69,7 @@ FRAMES = [
     Frame("no line", "", []),
     Frame("an empty line means nothing", "\n\n", []),
     Frame("a line of whitespace means nothing (RFC 8259, 2)", " \n\t\n\r\n \t \r", []),
+    Frame("127 levels", '{"headers":[],"number":' + "[" * 126 + "]" * 126 + "}\n", [""]),
     Frame("lines that end in a carriage return", line(ETH).replace("\n", "\r\n") + "\r\n" + line(ETH).replace("\n", "\r\n"), [ADDRESSES + "0000"] * 2),
     Frame("no header", line(), [""]),
     Frame("a header with nothing given", line({"header": "eth"}), ["00" * 14]),
@@ -156,10 +158,18 @@ FRAMES = [
 REFUSED = [
     Refused("no JSON", "{\n", "line 1: this is no JSON text"),
     Refused("no UTF-8", "\"\udcff\"\n", "line 1: this is no JSON text"),
-    Refused("no object", "5\n", "line 1: headers is missing"),
+    Refused("no object", "5\n", "line 1: this is no object"),
+    Refused("an array", "[]\n", "line 1: this is no object"),
+    Refused("null", "null\n", "line 1: this is no object"),
     Refused("no headers", "{}\n", "line 1: headers is missing"),
     Refused("headers that are no array", '{"headers":{}}\n', "line 1: headers is no array"),
     Refused("an unknown member", '{"headers":[],"head":1}\n', "line 1: head is no member of this object"),
+    Refused("a name that clears a terminal", '{"headers":[],"\\u001b[2J\\u0007":1}\n', "line 1: \\u001b[2J\\u0007 is no member of this object"),
+    Refused("a name with a line feed", '{"headers":[],"a\\nether_make: b":1}\n', "line 1: a\\u000aether_make: b is no member of this object"),
+    Refused("a name with a backslash", '{"headers":[],"a\\\\u001b":1}\n', "line 1: a\\\\u001b is no member of this object"),
+    Refused("a name that is not ASCII (RFC 8259, 7)", '{"headers":[],"\u00e9\u202e\U0001d11e\u007f":1}\n', "line 1: \\u00e9\\u202e\\ud834\\udd1e\\u007f is no member of this object"),
+    Refused("a name of 64 characters", line(**{"a" * 64: 1}), f"line 1: {'a' * 64} is no member of this object"),
+    Refused("a long name", line({**ETH, "b" * 1_000_000: 1}), f"line 1: header 0: {'b' * 64}.. is no member of this object"),
     Refused("a fault without bytes", '{"fault":{},"headers":[]}\n', "line 1: bytes is missing"),
     Refused("a fault whose bytes are null", '{"fault":{"bytes":null},"headers":[]}\n', "line 1: bytes is missing"),
     Refused("a fault that is no object", '{"fault":"45","headers":[]}\n', "line 1: fault is no object"),
@@ -249,6 +259,10 @@ REFUSED = [
     Refused("an object over two lines", '{"headers":\n[]}\n', "line 1: this is no JSON text"),
     Refused("a comment", "// []\n", "line 1: this is no JSON text"),
     Refused("a number in hexadecimal", '{"headers":[{"header":"eth","type":0x800}]}\n', "line 1: this is no JSON text"),
+    Refused("a number beyond a float", '{"headers":[],"number":1e999}\n', "line 1: this is no JSON text"),
+    Refused("400 digits", '{"headers":[],"number":' + "9" * 400 + "}\n", "line 1: this is no JSON text"),
+    Refused("half of a surrogate pair", '{"headers":[],"number":"\\ud800"}\n', "line 1: this is no JSON text"),
+    Refused("128 levels", '{"headers":[],"number":' + "[" * 127 + "]" * 127 + "}\n", "line 1: this is no JSON text"),
     Refused("whitespace that JSON does not have (RFC 8259, 2)", " \f\n", "line 1: this is no JSON text"),
     Refused("a no-break space", "\u00a0\n", "line 1: this is no JSON text"),
     Refused("the line's number counts blank lines", " \n\r\nx\n", "line 3: this is no JSON text"),
@@ -378,6 +392,16 @@ def refused_cases(program):
     for case in REFUSED:
         before = capture_of([bytes.fromhex(it) for it in case.frames], case.link)
         yield case.name, made(program, case.lines), (before, f"ether_make: {case.said}\n", 3)
+
+
+def reason_cases():
+    """The REASONs in the table of FORMAT are those of the sources, in any order."""
+    top = os.path.join(os.path.dirname(os.path.abspath(__file__)), "..")
+    with open(f"{top}/crates/ether_make/src/refusal.rt", encoding="utf-8") as file:
+        reasons = re.findall(r'Reason::\w+ => "([^"]+)"', file.read())
+    with open(f"{top}/docs/FORMAT.md", encoding="utf-8") as file:
+        table = file.read().partition("REASON | When\n---|---\n")[2].partition("\n\n")[0]
+    yield "the reasons of FORMAT", sorted(it for row in table.splitlines() for it in row.partition(" | ")[0].split(", ")), sorted(reasons)
 
 
 def word_cases(program):
@@ -629,7 +653,7 @@ def main():
     folder = os.path.dirname(given.program)
     built = os.path.join(folder, "..", "..", "ether_capture", "out", "ether_capture"), os.path.join(folder, "ether_capture")
     capture = given.capture or next((it for it in built if os.path.exists(it)), built[0])
-    cases = [*frame_cases(given.program), *memory_cases(given.program), *padded_cases(given.program), *checked_cases(given.program), *hex_cases(given.program), *refused_cases(given.program), *word_cases(given.program), *live_cases(given.program), *file_cases(given.program),
+    cases = [*frame_cases(given.program), *memory_cases(given.program), *padded_cases(given.program), *checked_cases(given.program), *hex_cases(given.program), *refused_cases(given.program), *reason_cases(), *word_cases(given.program), *live_cases(given.program), *file_cases(given.program),
              *scapy_cases(given.program), *tshark_cases(given.program),
              *printed_cases(given.program, capture), *exact_cases(given.program, capture), *range_cases(given.program), *sent_cases(given.program)]
     return count((name, got, wanted) for name, got, wanted in cases if given.word in name)

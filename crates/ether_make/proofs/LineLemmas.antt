@@ -1,8 +1,9 @@
 -- Lines of a text.
-use Rattle.std.proofs.Common.{◌≡◌, ◌≢◌, ℕ, zero, suc, ◌-◌, ◌≤◌, List, [], ◌∷◌, ◌++◌, length, Option, Some, None, Result, Ok, Err, Bool, true, false, All, nat_eq, nat_lt, ◌==◌, if◌then◌else◌, refl, ap, subst, ne_eqb, arith, length-append}
+use Rattle.std.proofs.Common.{◌≡◌, ◌≢◌, ℕ, zero, suc, ◌-◌, ◌≤◌, List, [], ◌∷◌, ◌++◌, length, Option, Some, None, is_some, Result, Ok, Err, Bool, true, false, All, nat_eq, nat_lt, ◌==◌, if◌then◌else◌, refl, ap, subst, ne_eqb, arith, length-append}
 use Rattle.std.proofs.lemmas.Bool.{ltb-false}
 use Rattle.std.proofs.lemmas.List.Splits.{slice_split_none, slice_split_at}
 use Rattle.serde_json.specs.Data.{Data}
+use Rattle.serde_json.specs.Find.{as_object}
 use Rattle.ether_pcap.specs.Record.{max_captured_len}
 use Rattle.ether_make.specs.declared.template.Template.{Template}
 use Rattle.ether_pcap.specs.Writing.{zeros}
@@ -15,22 +16,25 @@ use Rattle.ether_make.specs.Refusals.{Meaning}
 use Rattle.ether_make.specs.declared.lines.LineFault.{LineFault}
 use Rattle.ether_make.specs.declared.lines.LineFault.TheVariants as faults
 
-told_object : (link : Option ℕ) (text : List ℕ) (d : Data) → IsJson text d → (told : Option LineRefusal)
+told_object : (link : Option ℕ) (text : List ℕ) (d : Data) → IsJson text d → is_some (as_object d) ≡ true
+    → (told : Option LineRefusal)
     → IfTold (λ r. one_link link (sized (template_meaning d)) ≡ Err r) told
     → IfTold (λ r. LineMeans link text (Err r)) told
-told_object link text d json None h = tt
-told_object link text d json (Some r) h = subst (λ (m : Result TemplateValue LineRefusal). LineMeans link text m) h
-    (meant.object d json)
+told_object link text d json is None h = tt
+told_object link text d json is (Some r) h = subst (λ (m : Result TemplateValue LineRefusal). LineMeans link text m) h
+    (meant.object d json is)
 
-pub line-object : (link : Option ℕ) (text : List ℕ) (d : Data) → IsJson text d → (r : Result Template LineFault)
+pub line-object : (link : Option ℕ) (text : List ℕ) (d : Data) → IsJson text d → is_some (as_object d) ≡ true
+    → (r : Result Template LineFault)
     → TellsLine (one_link link (sized (template_meaning d))) r → LineOf link text r
-line-object link text d json (Ok t) h =
-    subst (λ (m : Result TemplateValue LineRefusal). LineMeans link text m) h (meant.object d json)
-line-object link text d json (Err fault) h = told_object link text d json (fault_view fault) h
+line-object link text d json is (Ok t) h =
+    subst (λ (m : Result TemplateValue LineRefusal). LineMeans link text m) h (meant.object d json is)
+line-object link text d json is (Err fault) h = told_object link text d json is (fault_view fault) h
 
 pub line-not_json : (link : Option ℕ) (text : List ℕ) (fault : LineFault) → IsNotJson text fault
     → LineOf link text (Err fault)
 line-not_json link text faults.NotJson h = meant.not_json h
+line-not_json link text faults.NotObject h = absurd h
 line-not_json link text (faults.Refused header member reason) h = absurd h
 line-not_json link text faults.TooLong h = absurd h
 line-not_json link text faults.Memory h = tt
@@ -60,8 +64,9 @@ linked-fits (Some link) (Err r) h = tt
 linked-fits (Some link) (Ok t) h = if-fits t _ (nat_eq t.frame.link link) h
 
 fits : (link : Option ℕ) (text : List ℕ) (m : Result TemplateValue LineRefusal) → LineMeans link text m → FitsIfOk m
-fits link text m (meant.object d json) =
+fits link text m (meant.object d json is) =
     linked-fits link (sized (template_meaning d)) (sized-fits (template_meaning d))
+fits link text m (meant.not_object d json is) = tt
 fits link text m (meant.not_json h) = tt
 
 length-zeros : (n : ℕ) → length (zeros n) ≡ n

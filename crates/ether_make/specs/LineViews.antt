@@ -8,11 +8,12 @@ use Rattle.ether_make.specs.Lines as lines
 use Rattle.ether_make.specs.Refusals.{RefusalValue, refused}
 use Rattle.ether_make.specs.declared.template.Template.{Template}
 use Rattle.ether_make.specs.declared.lines.LineFault.{LineFault}
-use Rattle.ether_make.specs.declared.lines.LineFault.TheVariants.{NotJson, Refused, TooLong, Memory}
+use Rattle.ether_make.specs.declared.lines.LineFault.TheVariants.{NotJson, NotObject, Refused, TooLong, Memory}
 
 -- the meaning that a fault tells, unless memory is short
 abbrev pub fault_view : LineFault → Option LineRefusal
 fault_view NotJson = Some lines.NotJson
+fault_view NotObject = Some lines.NotObject
 fault_view (Refused header member reason) = Some (lines.Object (refused header (string_bytes member) reason))
 fault_view TooLong = Some lines.TooLong
 fault_view Memory = None

@@ -1,7 +1,8 @@
 -- The frames that lines of text mean.
-use Rattle.std.specs.Prelude.{◌≡◌, ◌==◌, ℕ, ◌+◌, ◌-◌, ◌<◌, ◌^◌, ◌&&◌, ◌||◌, List, [], ◌∷◌, ◌++◌, length, codes, Bool, true, false, Option, Some, None, unwrap_or, Result, Ok, Err, nat_eq, nat_lt, IsUtf8, if◌then◌else◌}
+use Rattle.std.specs.Prelude.{◌≡◌, ◌==◌, ℕ, ◌+◌, ◌-◌, ◌<◌, ◌^◌, ◌&&◌, ◌||◌, List, [], ◌∷◌, ◌++◌, length, codes, Bool, true, false, Option, Some, None, is_some, unwrap_or, Result, Ok, Err, nat_eq, nat_lt, IsUtf8, if◌then◌else◌}
 use Rattle.std.specs.List.{list_all, slice_split}
 use Rattle.serde_json.specs.Data.{Data}
+use Rattle.serde_json.specs.Find.{as_object}
 use Rattle.serde_json.specs.Read.{read}
 use Rattle.ether_make.specs.declared.refusal.Reason.TheVariants.{OtherFrames, OtherTime}
 use Rattle.ether_make.specs.declared.progress.Pace.{Pace}
@@ -12,10 +13,11 @@ use Rattle.ether_make.specs.Templates.{TemplateValue, after_frames, frames_from,
 use Rattle.ether_make.specs.Refusals.{Meaning, RefusalValue}
 use Rattle.ether_make.specs.Refusals.{refused as refusal}
 
--- why a line means no frame: it is no JSON text, its object is refused, or the frame is longer than a packet of a
--- capture is
+-- why a line means no frame: it is no JSON text, or one that is no object, its object is refused, or the frame is longer
+-- than a packet of a capture is
 pub data LineRefusal : Type 0 where
   NotJson : LineRefusal
+  NotObject : LineRefusal
   Object : RefusalValue → LineRefusal
   TooLong : LineRefusal
 
@@ -42,7 +44,9 @@ one_link (Some link) (Ok t) =
 
 -- what a line means after frames with this link type
 pub data LineMeans (link : Option ℕ) (text : List ℕ) : Result TemplateValue LineRefusal → Type 0 where
-  object : (d : Data) → IsJson text d → LineMeans link text (one_link link (sized (template_meaning d)))
+  object : (d : Data) → IsJson text d → is_some (as_object d) ≡ true
+      → LineMeans link text (one_link link (sized (template_meaning d)))
+  not_object : (d : Data) → IsJson text d → is_some (as_object d) ≡ false → LineMeans link text (Err NotObject)
   not_json : (IsUtf8 text → read text ≡ None) → LineMeans link text (Err NotJson)
 
 -- the lines of a text: a line feed (10) is between two

@@ -19,6 +19,8 @@ const LONGEST: usize = 262_144;
 pub enum LineFault {
     /// It is no JSON text.
     NotJson,
+    /// It is no object.
+    NotObject,
     /// Its object is refused.
     Refused {
         /// The header's index, if a header is refused.
@@ -55,10 +57,14 @@ impl Stop {
 pub fn line_template(alloc: Global, text: &[u8], link: Option<u16>) -> Result<Template, LineFault>
     ensures { LineOf link text.now result }
 {
-    match value_of(alloc, text) {
-        Ok(value) => object_template(alloc, &value, link),
-        Err(fault) => Err(fault),
+    let value = match value_of(alloc, text) {
+        Ok(value) => value,
+        Err(fault) => return Err(fault),
+    };
+    if !value.is_object() {
+        return Err(LineFault::NotObject);
     }
+    object_template(alloc, &value, link)
 }
 
 /// The value of a text.

@@ -29,6 +29,7 @@ pub mod refusal;
 pub mod request;
 pub mod series;
 pub mod settings;
+pub mod shown;
 pub mod sizes;
 pub mod slot;
 pub mod template;

@@ -6,6 +6,7 @@ use crate::ether_make::progress::{Progress, is_timely};
 use crate::ether_make::refusal::Reason;
 use crate::ether_make::series::{Series, series_of, write_series};
 use crate::ether_make::settings::Settings;
+use crate::ether_make::shown::Shown;
 use crate::ether_make::memory::Global;
 use std::io::{BufRead, Write};
 use std::{fmt, io};
@@ -211,6 +212,7 @@ impl fmt::Display for Stop {
         let line = self.line;
         match &self.fault {
             LineFault::NotJson => write!(f, "line {line}: this is no JSON text"),
+            LineFault::NotObject => write!(f, "line {line}: this is no object"),
             LineFault::TooLong => write!(f, "line {line}: the frame has more than 262144 bytes"),
             LineFault::Memory => write!(f, "out of memory"),
             LineFault::Refused {
@@ -219,14 +221,20 @@ impl fmt::Display for Stop {
                 reason,
             } => write!(
                 f,
-                "line {line}: header {header}: {member} {}",
+                "line {line}: header {header}: {} {}",
+                Shown(member.as_str()),
                 reason.text()
             ),
             LineFault::Refused {
                 header: None,
                 member,
                 reason,
-            } => write!(f, "line {line}: {member} {}", reason.text()),
+            } => write!(
+                f,
+                "line {line}: {} {}",
+                Shown(member.as_str()),
+                reason.text()
+            ),
         }
     }
 }
