@@ -69,6 +69,7 @@ FRAMES = [
     Frame("no line", "", []),
     Frame("an empty line means nothing", "\n\n", []),
     Frame("a line of whitespace means nothing (RFC 8259, 2)", " \n\t\n\r\n \t \r", []),
+    Frame("members of one name in two objects", line({"header": "eth", "type": 1}, {"header": "vlan", "type": 1}), ["00" * 12 + "0001" "0000" "0001"]),
     Frame("127 levels", '{"headers":[],"number":' + "[" * 126 + "]" * 126 + "}\n", [""]),
     Frame("lines that end in a carriage return", line(ETH).replace("\n", "\r\n") + "\r\n" + line(ETH).replace("\n", "\r\n"), [ADDRESSES + "0000"] * 2),
     Frame("no header", line(), [""]),
@@ -152,8 +153,9 @@ FRAMES = [
     Frame("a rest without bytes", line(ETH, rest={"start": 14, "end": 60, "kind": "ether_type", "type": None}), [ADDRESSES + "0000"]),
     Frame("three lines, and one of them empty", line(ETH) + "\n" + line({"header": "eth", "type": 1}), [ADDRESSES + "0000", "00" * 12 + "0001"]),
     Frame("no line feed at the end", line(ETH).strip(), [ADDRESSES + "0000"]),
-    Frame("the last of two members of one name (RFC 8259, 4)", '{"headers":[{"header":"eth","type":1,"type":2}]}', ["00" * 12 + "0002"]),
 ]
+
+TWICE = "line 1: an object has two members of one name"
 
 REFUSED = [
     Refused("no JSON", "{\n", "line 1: this is no JSON text"),
@@ -259,6 +261,16 @@ REFUSED = [
     Refused("an object over two lines", '{"headers":\n[]}\n', "line 1: this is no JSON text"),
     Refused("a comment", "// []\n", "line 1: this is no JSON text"),
     Refused("a number in hexadecimal", '{"headers":[{"header":"eth","type":0x800}]}\n', "line 1: this is no JSON text"),
+    Refused("two members of one name (RFC 8259, 4)", '{"headers":[{"header":"eth","type":1,"type":2}]}\n', TWICE),
+    Refused("two members of one name and value", '{"headers":[{"header":"eth","type":1,"type":1}]}\n', TWICE),
+    Refused("two members of one name, and one of them null", '{"headers":[{"header":"eth","type":1,"type":null}]}\n', TWICE),
+    Refused("two members whose names are spelled in two ways", '{"headers":[{"header":"eth","type":1,"t\\u0079pe":2}]}\n', TWICE),
+    Refused("two lists of headers", '{"headers":[{"header":"eth"}],"headers":[]}\n', TWICE),
+    Refused("two members of a rest", line(ETH)[:-2] + ',"rest":{"bytes":"aa","bytes":"bb"}}\n', TWICE),
+    Refused("two members of a range", '{"headers":[{"header":"eth","type":{"from":1,"to":2,"to":3}}]}\n', TWICE),
+    Refused("two members of what is not used", '{"headers":[],"number":[{"a":1,"a":2}]}\n', TWICE),
+    Refused("two members in an array", '[{"a":1,"a":2}]\n', TWICE),
+    Refused("two members of one name in the second line", line(ETH) + '{"link":1,"link":1,"headers":[]}\n', TWICE.replace("1", "2"), (ADDRESSES + "0000",)),
     Refused("a number beyond a float", '{"headers":[],"number":1e999}\n', "line 1: this is no JSON text"),
     Refused("400 digits", '{"headers":[],"number":' + "9" * 400 + "}\n", "line 1: this is no JSON text"),
     Refused("half of a surrogate pair", '{"headers":[],"number":"\\ud800"}\n', "line 1: this is no JSON text"),

@@ -12,6 +12,7 @@ pub mod Times
 pub mod Frames
 pub mod Templates
 pub mod FrameViews
+pub mod Repeated
 pub mod Lines
 pub mod LineViews
 pub mod Captures

@@ -1,5 +1,5 @@
 -- The frames that lines of text mean.
-use Rattle.std.specs.Prelude.{◌≡◌, ◌==◌, ℕ, ◌+◌, ◌-◌, ◌<◌, ◌^◌, ◌&&◌, ◌||◌, List, [], ◌∷◌, ◌++◌, length, codes, Bool, true, false, Option, Some, None, is_some, unwrap_or, Result, Ok, Err, nat_eq, nat_lt, IsUtf8, if◌then◌else◌}
+use Rattle.std.specs.Prelude.{◌≡◌, ◌==◌, ℕ, ◌+◌, ◌-◌, ◌^◌, ◌&&◌, ◌||◌, List, [], ◌∷◌, ◌++◌, length, codes, Bool, true, false, Option, Some, None, is_some, unwrap_or, Result, Ok, Err, nat_eq, nat_lt, IsUtf8, if◌then◌else◌}
 use Rattle.std.specs.List.{list_all, slice_split}
 use Rattle.serde_json.specs.Data.{Data}
 use Rattle.serde_json.specs.Find.{as_object}
@@ -11,13 +11,15 @@ use Rattle.ether_make.specs.declared.time_text.Time.{Time}
 use Rattle.ether_make.specs.Frames.{FrameValue, padded}
 use Rattle.ether_make.specs.Templates.{TemplateValue, after_frames, frames_from, in_capture, later, template_meaning}
 use Rattle.ether_make.specs.Refusals.{Meaning, RefusalValue}
+use Rattle.ether_make.specs.Repeated.{IsRepeated, IsUnique}
 use Rattle.ether_make.specs.Refusals.{refused as refusal}
 
--- why a line means no frame: it is no JSON text, or one that is no object, its object is refused, or the frame is longer
--- than a packet of a capture is
+-- why a line means no frame: it is no JSON text; an object in it has two members of one name; it is no object; its
+-- object is refused; or the frame is longer than a packet of a capture is
 pub data LineRefusal : Type 0 where
   NotJson : LineRefusal
   NotObject : LineRefusal
+  Repeated : LineRefusal
   Object : RefusalValue → LineRefusal
   TooLong : LineRefusal
 
@@ -44,9 +46,11 @@ one_link (Some link) (Ok t) =
 
 -- what a line means after frames with this link type
 pub data LineMeans (link : Option ℕ) (text : List ℕ) : Result TemplateValue LineRefusal → Type 0 where
-  object : (d : Data) → IsJson text d → is_some (as_object d) ≡ true
+  object : (d : Data) → IsJson text d → is_some (as_object d) ≡ true → IsUnique text
       → LineMeans link text (one_link link (sized (template_meaning d)))
-  not_object : (d : Data) → IsJson text d → is_some (as_object d) ≡ false → LineMeans link text (Err NotObject)
+  not_object : (d : Data) → IsJson text d → is_some (as_object d) ≡ false → IsUnique text
+      → LineMeans link text (Err NotObject)
+  repeated : (d : Data) → IsJson text d → IsRepeated text → LineMeans link text (Err Repeated)
   not_json : (IsUtf8 text → read text ≡ None) → LineMeans link text (Err NotJson)
 
 -- the lines of a text: a line feed (10) is between two

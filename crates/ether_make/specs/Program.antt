@@ -1,5 +1,5 @@
 -- What a run of the program makes of its input.
-use Rattle.std.specs.Prelude.{◌≡◌, ℕ, ◌<◌, List, [], ◌∷◌, ◌++◌, length, map, Bool, true, false, All, ◌≢◌, None, Option, Some, IfSome, Ok, if◌then◌else◌}
+use Rattle.std.specs.Prelude.{◌≡◌, ℕ, List, [], ◌∷◌, ◌++◌, map, Bool, true, false, All, ◌≢◌, None, Option, Some, IfSome, Ok, if◌then◌else◌}
 use Rattle.std.specs.Io.KnownBytes.{Appends, Consumes, IsAtEnd}
 use Rattle.std.specs.Io.{StopsAt}
 use Rattle.ether_make.specs.Captures.{Grows}

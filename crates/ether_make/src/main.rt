@@ -27,6 +27,7 @@ pub mod program;
 pub mod progress;
 pub mod range;
 pub mod refusal;
+mod repeated;
 pub mod request;
 pub mod series;
 pub mod settings;

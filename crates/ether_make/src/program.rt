@@ -238,6 +238,9 @@ impl fmt::Display for Stop {
         match &self.fault {
             LineFault::NotJson => write!(f, "line {line}: this is no JSON text"),
             LineFault::NotObject => write!(f, "line {line}: this is no object"),
+            LineFault::Repeated => {
+                write!(f, "line {line}: an object has two members of one name")
+            }
             LineFault::TooLong => write!(f, "line {line}: the frame has more than 262144 bytes"),
             LineFault::Memory => write!(f, "out of memory"),
             LineFault::Refused {

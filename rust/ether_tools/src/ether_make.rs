@@ -26,6 +26,7 @@ pub mod progress;
 pub mod random;
 pub mod range;
 pub mod refusal;
+mod repeated;
 pub mod request;
 pub mod series;
 pub mod settings;

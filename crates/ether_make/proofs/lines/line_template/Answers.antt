@@ -10,8 +10,10 @@ returns-in-Err c = line-not_json c.args.link c.args.text.now c.in-Err.fault c.in
 pub returns-then-not-is_object : goal.returns-then-not-is_object
 returns-then-not-is_object c =
     not_object (view c.in-Ok.value) c.in-Ok.ensures.value (sym c.is_object.ensures ∙ c.if-not-is_object.true)
+    c.in-Ok.ensures.unique
 
 pub returns : goal.returns
 returns c =
     line-object c.args.link c.args.text.now (view c.in-Ok.value) c.in-Ok.ensures.value
-    (sym c.is_object.ensures ∙ c.if-not-is_object.false) c.object_template.result c.object_template.ensures
+    (sym c.is_object.ensures ∙ c.if-not-is_object.false) c.in-Ok.ensures.unique c.object_template.result
+    c.object_template.ensures
