@@ -22,8 +22,8 @@ told_object : (link : Option ℕ) (text : List ℕ) (d : Data) → IsJson text d
     → IfTold (λ r. one_link link (sized (template_meaning d)) ≡ Err r) told
     → IfTold (λ r. LineMeans link text (Err r)) told
 told_object link text d json is unique None h = tt
-told_object link text d json is unique (Some r) h = subst (λ (m : Result TemplateValue LineRefusal). LineMeans link text m) h
-    (meant.object d json is unique)
+told_object link text d json is unique (Some r) h =
+    subst (λ (m : Result TemplateValue LineRefusal). LineMeans link text m) h (meant.object d json is unique)
 
 pub line-object : (link : Option ℕ) (text : List ℕ) (d : Data) → IsJson text d → is_some (as_object d) ≡ true
     → IsUnique text → (r : Result Template LineFault)

@@ -6,7 +6,7 @@ use lib.Bits.{block_half, block_odd, shifted_even, shifted_half, xor_assoc, xor_
 use Rattle.ether_make.specs.CheckSequences.{added, divided, low_bits, plus, sent}
 use Rattle.ether_make.specs.CheckSteps.{TakesIn}
 use Rattle.ether_make.proofs.CheckLemmas.{added-assoc, bit-one, bit-zero, half-fits, low-eight, low-suc, low-xor, low-zero, xor-bit}
-use Rattle.ether_make.specs.declared.check_tables.TheConstants.{AFTER_8, AFTER_16, AFTER_24, AFTER_32}
+use Rattle.ether_make.specs.declared.check_tables.TheConstants.{AFTER_STEPS}
 
 -- ---- steps that take no bits
 
@@ -38,7 +38,8 @@ zero-taken n r rest false e h enough = bit-zero n r false rest h enough e
 zero-taken n r rest true e h enough = bit-one n r false rest h enough e
 
 zeros-taken : (k n r : ℕ) (rest : List Bool) → r < 2 ^ 32 → 32 ≤ length rest
-    → divided (k + n) (added (low_bits 32 r) (replicate k false ++ rest)) ≡ divided n (added (low_bits 32 (steps k r)) rest)
+    → divided (k + n) (added (low_bits 32 r) (replicate k false ++ rest))
+    ≡ divided n (added (low_bits 32 (steps k r)) rest)
 zeros-taken zero n r rest h enough =
     let e : zero + n ≡ n = omega arith in
     rw e (ap (λ x. divided n (added (low_bits 32 x) rest)) (sym (steps-zero r)))
@@ -89,7 +90,9 @@ steps-more (suc j) k r =
 
 -- steps for the last byte of a register, and for the others
 parts : (r : ℕ) → r ≡ bit_xor (r / 256 * 2 ^ 8) (r % 256)
-parts r = let e : r ≡ r / 256 * 2 ^ 8 + r % 256 = omega arith in e ∙ sym (xor_shifted (r / 256) 8 (r % 256) (omega arith))
+parts r =
+    let e : r ≡ r / 256 * 2 ^ 8 + r % 256 = omega arith in
+    e ∙ sym (xor_shifted (r / 256) 8 (r % 256) (omega arith))
 
 steps-parts : (k r : ℕ) → steps (8 + k) r ≡ bit_xor (steps (8 + k) (r % 256)) (steps k (r / 256))
 steps-parts k r =
@@ -99,6 +102,18 @@ steps-parts k r =
     (steps-more 8 k (r / 256 * 2 ^ 8) ∙ ap (steps k) (steps-shifted 8 (r / 256)))
 
 -- ---- the tables
+
+abbrev after_8 : List ℕ
+after_8 = slice_index_or AFTER_STEPS 0 []
+
+abbrev after_16 : List ℕ
+after_16 = slice_index_or AFTER_STEPS 1 []
+
+abbrev after_24 : List ℕ
+after_24 = slice_index_or AFTER_STEPS 2 []
+
+abbrev after_32 : List ℕ
+after_32 = slice_index_or AFTER_STEPS 3 []
 
 unfoldable steps-from : (k r n : ℕ) → List ℕ
 steps-from k r zero = []
@@ -111,23 +126,24 @@ at-from k r (suc n) zero h = let e : r ≡ r + 0 = omega arith in ap (steps k) e
 at-from k r (suc n) (suc i) h =
     let e : suc r + i ≡ r + suc i = omega arith in at-from k (suc r) n i (omega arith) ∙ ap (steps k) e
 
-is-8 : AFTER_8 ≡ steps-from 8 0 256
+is-8 : after_8 ≡ steps-from 8 0 256
 unfolding steps-from steps
 is-8 = refl
 
-is-16 : AFTER_16 ≡ steps-from 16 0 256
+is-16 : after_16 ≡ steps-from 16 0 256
 unfolding steps-from steps
 is-16 = refl
 
-is-24 : AFTER_24 ≡ steps-from 24 0 256
+is-24 : after_24 ≡ steps-from 24 0 256
 unfolding steps-from steps
 is-24 = refl
 
-is-32 : AFTER_32 ≡ steps-from 32 0 256
+is-32 : after_32 ≡ steps-from 32 0 256
 unfolding steps-from steps
 is-32 = refl
 
-at-table : (k : ℕ) (table : List ℕ) → table ≡ steps-from k 0 256 → (i : ℕ) → i < 256 → slice_index_or table i 0 ≡ steps k i
+at-table : (k : ℕ) (table : List ℕ) → table ≡ steps-from k 0 256 → (i : ℕ) → i < 256
+    → slice_index_or table i 0 ≡ steps k i
 at-table k table is i h =
     let e : 0 + i ≡ i = omega arith in
     ap (λ (l : List ℕ). slice_index_or l i 0) is ∙ at-from k 0 256 i h ∙ ap (steps k) e
@@ -172,13 +188,13 @@ number-taken k j r w n rest s h fits few enough =
 
 -- what is left of a register after the steps of a byte, as the code finds it
 pub byte-taken : (r b : ℕ) → r < 2 ^ 32 → b < 256
-    → TakesIn r (b ∷ []) (bit_xor (slice_index_or AFTER_8 (bit_xor r b % 256) 0) (bit_xor r b / 256))
+    → TakesIn r (b ∷ []) (bit_xor (slice_index_or after_8 (bit_xor r b % 256) 0) (bit_xor r b / 256))
 byte-taken r b h few n rest enough =
     ap (λ l. divided (8 + n) (added (low_bits 32 r) (l ++ rest))) (append-nil (low_bits 8 b))
     ∙ number-taken 8 24 r b n rest refl h (omega (arith, few)) (omega (arith, few)) enough
     ∙ ap (λ x. divided n (added (low_bits 32 x) rest))
     (steps-parts 0 (bit_xor r b)
-    ∙ ap₂ bit_xor (sym (at-table 8 AFTER_8 is-8 (bit_xor r b % 256) (omega arith))) (steps-zero (bit_xor r b / 256)))
+    ∙ ap₂ bit_xor (sym (at-table 8 after_8 is-8 (bit_xor r b % 256) (omega arith))) (steps-zero (bit_xor r b / 256)))
 
 low-mod : (k m n : ℕ) → low_bits k (m * 2 ^ k + n) ≡ low_bits k n
 low-mod zero m n = low-zero (m * 2 ^ 0 + n) ∙ sym (low-zero n)
@@ -205,14 +221,14 @@ steps-four : (s : ℕ) → s < 2 ^ 32
     → steps 32 s
     ≡ bit_xor
     (bit_xor
-    (bit_xor (slice_index_or AFTER_32 (s % 256) 0) (slice_index_or AFTER_24 (s / 256 % 256) 0))
-    (slice_index_or AFTER_16 (s / 65536 % 256) 0))
-    (slice_index_or AFTER_8 (s / 16777216) 0)
+    (bit_xor (slice_index_or after_32 (s % 256) 0) (slice_index_or after_24 (s / 256 % 256) 0))
+    (slice_index_or after_16 (s / 65536 % 256) 0))
+    (slice_index_or after_8 (s / 16777216) 0)
 steps-four s h =
-    let a = at-table 32 AFTER_32 is-32 (s % 256) (omega arith) in
-    let b = at-table 24 AFTER_24 is-24 (s / 256 % 256) (omega arith) in
-    let c = at-table 16 AFTER_16 is-16 (s / 65536 % 256) (omega arith) in
-    let d = at-table 8 AFTER_8 is-8 (s / 16777216) (omega (arith, h)) in
+    let a = at-table 32 after_32 is-32 (s % 256) (omega arith) in
+    let b = at-table 24 after_24 is-24 (s / 256 % 256) (omega arith) in
+    let c = at-table 16 after_16 is-16 (s / 65536 % 256) (omega arith) in
+    let d = at-table 8 after_8 is-8 (s / 16777216) (omega (arith, h)) in
     let third : s / 256 / 256 ≡ s / 65536 = omega arith in
     let last : s / 65536 / 256 ≡ s / 16777216 = omega arith in
     steps-parts 24 s
@@ -220,20 +236,21 @@ steps-four s h =
     (steps-parts 16 (s / 256)
     ∙ ap₂ bit_xor (sym b)
     (ap (steps 16) third ∙ steps-parts 8 (s / 65536) ∙ ap₂ bit_xor (sym c) (ap (steps 8) last ∙ sym d)))
-    ∙ sym (xor_assoc (slice_index_or AFTER_32 (s % 256) 0) (slice_index_or AFTER_24 (s / 256 % 256) 0) _)
-    ∙ sym (xor_assoc _ (slice_index_or AFTER_16 (s / 65536 % 256) 0) (slice_index_or AFTER_8 (s / 16777216) 0))
+    ∙ sym (xor_assoc (slice_index_or after_32 (s % 256) 0) (slice_index_or after_24 (s / 256 % 256) 0) _)
+    ∙ sym (xor_assoc _ (slice_index_or after_16 (s / 65536 % 256) 0) (slice_index_or after_8 (s / 16777216) 0))
 
 pub four-taken : (r a b c d w : ℕ) → r < 2 ^ 32 → a < 256 → b < 256 → c < 256 → d < 256
     → w ≡ ((d * 2 ^ 8 + c) * 2 ^ 8 + b) * 2 ^ 8 + a
     → TakesIn r (a ∷ b ∷ c ∷ d ∷ [])
     (bit_xor
     (bit_xor
-    (bit_xor (slice_index_or AFTER_32 (bit_xor r w % 256) 0) (slice_index_or AFTER_24 (bit_xor r w / 256 % 256) 0))
-    (slice_index_or AFTER_16 (bit_xor r w / 65536 % 256) 0))
-    (slice_index_or AFTER_8 (bit_xor r w / 16777216) 0))
+    (bit_xor (slice_index_or after_32 (bit_xor r w % 256) 0) (slice_index_or after_24 (bit_xor r w / 256 % 256) 0))
+    (slice_index_or after_16 (bit_xor r w / 65536 % 256) 0))
+    (slice_index_or after_8 (bit_xor r w / 16777216) 0))
 four-taken r a b c d w h ha hb hc hd is n rest enough =
     let fits : w < 2 ^ 32 = omega (arith, ha, hb, hc, hd, is) in
-    ap (λ l. divided (32 + n) (added (low_bits 32 r) (l ++ rest))) (low-four a b c d ha hb hc ∙ ap (low_bits 32) (sym is))
+    ap (λ l. divided (32 + n) (added (low_bits 32 r) (l ++ rest)))
+    (low-four a b c d ha hb hc ∙ ap (low_bits 32) (sym is))
     ∙ number-taken 32 0 r w n rest refl h fits fits enough
     ∙ ap (λ x. divided n (added (low_bits 32 x) rest)) (steps-four (bit_xor r w) (xor_lt 32 r w h fits))
 

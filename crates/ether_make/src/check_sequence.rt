@@ -3,7 +3,7 @@ ghost use Rattle.std.specs.Prelude.{◌≡◌, ◌∷◌, [], map, not};
 ghost use Rattle.ether_make.specs.CheckSequences.{check_sequence as check_sequence_in, low_bits, received};
 ghost use Rattle.ether_make.specs.CheckSteps.{TakesIn};
 
-use crate::check_tables::{AFTER_8, AFTER_16, AFTER_24, AFTER_32};
+use crate::check_tables::AFTER_STEPS;
 
 /// The check sequence of bytes, in the order in which it is sent.
 pub fn check_sequence(bytes: &[u8]) -> [u8; 4]
@@ -31,10 +31,10 @@ fn with_four(register: u32, a: u8, b: u8, c: u8, d: u8) -> u32
     ensures { TakesIn register (a ∷ b ∷ c ∷ d ∷ []) result }
 {
     let sum = register ^ u32::from_le_bytes([a, b, c, d]);
-    AFTER_32[(sum % 256) as usize]
-        ^ AFTER_24[(sum / 256 % 256) as usize]
-        ^ AFTER_16[(sum / 65_536 % 256) as usize]
-        ^ AFTER_8[(sum / 16_777_216) as usize]
+    AFTER_STEPS[3][(sum % 256) as usize]
+        ^ AFTER_STEPS[2][(sum / 256 % 256) as usize]
+        ^ AFTER_STEPS[1][(sum / 65_536 % 256) as usize]
+        ^ AFTER_STEPS[0][(sum / 16_777_216) as usize]
 }
 
 /// Takes bytes into the division, one after the other.
@@ -53,5 +53,5 @@ fn with_byte(register: u32, byte: u8) -> u32
     ensures { TakesIn register (byte ∷ []) result }
 {
     let sum = register ^ u32::from(byte);
-    AFTER_8[(sum % 256) as usize] ^ (sum / 256)
+    AFTER_STEPS[0][(sum % 256) as usize] ^ (sum / 256)
 }

@@ -1,6 +1,6 @@
 //! The frame check sequence of Ethernet.
 
-use crate::ether_make::check_tables::{AFTER_8, AFTER_16, AFTER_24, AFTER_32};
+use crate::ether_make::check_tables::AFTER_STEPS;
 
 /// The check sequence of bytes, in the order in which it is sent.
 ///
@@ -30,10 +30,10 @@ fn complemented(register: u32) -> [u8; 4] {
 #[inline(always)]
 fn with_four(register: u32, a: u8, b: u8, c: u8, d: u8) -> u32 {
     let sum = register ^ u32::from_le_bytes([a, b, c, d]);
-    AFTER_32[(sum % 256) as usize]
-        ^ AFTER_24[(sum / 256 % 256) as usize]
-        ^ AFTER_16[(sum / 65_536 % 256) as usize]
-        ^ AFTER_8[(sum / 16_777_216) as usize]
+    AFTER_STEPS[3][(sum % 256) as usize]
+        ^ AFTER_STEPS[2][(sum / 256 % 256) as usize]
+        ^ AFTER_STEPS[1][(sum / 65_536 % 256) as usize]
+        ^ AFTER_STEPS[0][(sum / 16_777_216) as usize]
 }
 
 /// Takes bytes into the division, one after the other.
@@ -48,5 +48,5 @@ fn with_bytes(register: u32, bytes: &[u8]) -> u32 {
 /// Takes a byte into the division.
 fn with_byte(register: u32, byte: u8) -> u32 {
     let sum = register ^ u32::from(byte);
-    AFTER_8[(sum % 256) as usize] ^ (sum / 256)
+    AFTER_STEPS[0][(sum % 256) as usize] ^ (sum / 256)
 }

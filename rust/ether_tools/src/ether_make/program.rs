@@ -21,8 +21,9 @@ pub enum RunFault {
     Output(io::Error),
 }
 
-/// Makes the frames of the lines of a reader, and writes them. The frames of all lines that are there are written before
-/// the program waits for input. A line that means no frame ends the run; the output has the frames of the lines before it.
+/// Makes the frames of the lines of a reader, and writes them. The frames of all lines that are there are written
+/// before the program waits for input. A line that means no frame ends the run; the output has the frames of the
+/// lines before it.
 ///
 /// <details><summary>Contract</summary>
 ///
@@ -79,8 +80,8 @@ pub(in crate::ether_make) fn make_lines<R: BufRead, W: Write>(
     Err(RunFault::Line(Stop::MEMORY))
 }
 
-/// Reads a line, and returns whether a line feed was at its end. The writer is flushed before the program waits for input.
-/// So many bytes are known to be in the reader's buffer, or 0 if nothing is known.
+/// Reads a line, and returns whether a line feed was at its end. The writer is flushed before the program waits for
+/// input. `buffered` is how many bytes are known to be in the reader's buffer.
 fn next_line<R: BufRead, W: Write>(
     reader: &mut R,
     writer: &mut W,
@@ -114,8 +115,8 @@ fn flush<W: Write>(writer: &mut W) -> Result<(), RunFault> {
     }
 }
 
-/// How many bytes are in the buffer of a reader if a whole line is among them, or 0; [`None`] at the end of the input. It
-/// waits for input if the buffer is empty. A fault is left to the next read.
+/// How many bytes are in the buffer of a reader if a whole line is among them, or 0; [`None`] at the end of the
+/// input. It waits for input if the buffer is empty. A fault is left to the next read.
 fn buffered_line<R: BufRead>(reader: &mut R) -> Option<usize> {
     match reader.fill_buf() {
         Ok(buffer) if buffer.is_empty() => None,
