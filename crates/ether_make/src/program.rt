@@ -138,7 +138,7 @@ fn buffered_line<R: BufRead>(reader: &mut R) -> Option<usize>
     ensures end { result ≡ None → IsAtEnd (R.remaining reader.old) }
 {
     match reader.fill_buf() {
-        Ok(buffer) if buffer.is_empty() => None,
+        Ok([]) => None,
         Ok(buffer) if buffer.contains(&b'\n') => Some(buffer.len()),
         _ => Some(0),
     }

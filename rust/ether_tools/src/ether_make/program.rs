@@ -119,7 +119,7 @@ fn flush<W: Write>(writer: &mut W) -> Result<(), RunFault> {
 /// input. It waits for input if the buffer is empty. A fault is left to the next read.
 fn buffered_line<R: BufRead>(reader: &mut R) -> Option<usize> {
     match reader.fill_buf() {
-        Ok(buffer) if buffer.is_empty() => None,
+        Ok([]) => None,
         Ok(buffer) if buffer.contains(&b'\n') => Some(buffer.len()),
         _ => Some(0),
     }
