@@ -137,7 +137,7 @@ line-taken settings text held holds progress next count s some made grows is =
     series-frames settings progress t count s made.series made.counted in
     subst (λ (p : Progress). TakesLine settings text held holds progress p)
     (sym (is ∙ after-series settings progress t count s made.series made.counted))
-    (takes.some progress t some made.means made.timely
+    (takes.some progress t some made.means made.few made.timely
     (subst (λ (fs : List FrameValue). Grows (IsBegunAs settings.form settings.fcs) progress.link
     (all_linked progress.link fs) (map (finished settings) fs) held holds) same grows))
 
@@ -178,7 +178,7 @@ doing-line settings first before now after held mid holds number line progress n
       (λ lines more stop last h. meant.blank number p last line lines more stop e h);
 }
 doing-line settings first before now after held mid holds number line progress next d r
-    (takes.some p t some means timely g)
+    (takes.some p t some means few timely g)
     = record {
       text = d.text ++ (line ++ 10 ∷ []);
       frames = d.frames ++ frames_of settings p t;
@@ -189,7 +189,7 @@ doing-line settings first before now after held mid holds number line progress n
       written = Appends-trans held mid holds d.bytes g.more d.written g.written;
       means = ended_means settings first number (number + 1) p _ d.text line d.frames (frames_of settings p t)
           r.one_line d.means
-          (λ lines more stop last h. meant.some number p last line t lines more stop some means timely h);
+          (λ lines more stop last h. meant.some number p last line t lines more stop some means few timely h);
     }
 
 -- ---- the last line
@@ -238,7 +238,7 @@ doing-last settings first before now after held mid holds number line progress n
   at_end = known_end before now after d.text d.read (r.at_end refl);
 }
 doing-last settings first before now after held mid holds number line progress next d r
-    (takes.some p t some means timely g)
+    (takes.some p t some means few timely g)
     = record {
       ran = record {
         text = d.text ++ line;
@@ -248,7 +248,7 @@ doing-last settings first before now after held mid holds number line progress n
         read = read_last before now after d.text line d.read r.read;
         means = last_means settings first number p (meant.after settings p t) d.text line d.frames
             (frames_of settings p t ++ []) None r.one_line d.means
-            (meant.some number p _ line t [] [] None some means timely (meant.none (number + 1) _));
+            (meant.some number p _ line t [] [] None some means few timely (meant.none (number + 1) _));
         is_written =
             subst (λ (fs : List FrameValue). Continues settings first (meant.after settings p t)
             (meant.after settings p t)

@@ -4,7 +4,7 @@ use Rattle.std.specs.List.{list_all, slice_split}
 use Rattle.serde_json.specs.Data.{Data}
 use Rattle.serde_json.specs.Find.{as_object}
 use Rattle.serde_json.specs.Read.{read}
-use Rattle.ether_make.specs.declared.refusal.Reason.TheVariants.{OtherFrames, OtherTime}
+use Rattle.ether_make.specs.declared.refusal.Reason.TheVariants.{OtherFrames, OtherTime, TooMany}
 use Rattle.ether_make.specs.declared.progress.Pace.{Pace}
 use Rattle.ether_make.specs.declared.settings.Settings.{Settings}
 use Rattle.ether_make.specs.declared.time_text.Time.{Time}
@@ -104,6 +104,10 @@ sent_before (Some p) = p.sent
 abbrev pub frame_count : Settings → TemplateValue → ℕ
 frame_count settings t = unwrap_or settings.count t.found.combinations
 
+-- whether it is known how many frames are made: combinations that 64 bits do not count (0) need a number that is asked for
+abbrev pub is_counted : Settings → TemplateValue → Bool
+is_counted settings t = is_some settings.count || nat_lt 0 t.found.combinations
+
 -- whether a capture can have the time of the last frame, and 64 bits the number of frames
 abbrev pub is_timely_at : (rate : Option ℕ) → Option Pace → Time → (count : ℕ) → Bool
 is_timely_at None pace t count = true
@@ -127,10 +131,13 @@ after settings progress t = record {
   state = after_frames (frame_count settings t) t.found.slots progress.state;
 }
 
--- a line that is refused: by itself, or since its frames would be too late
+-- a line that is refused: by itself, since its frames are too many, or since they would be too late
 pub data Refuses (settings : Settings) (progress : Progress) (text : List ℕ) : LineRefusal → Type 0 where
   meaning : (r : LineRefusal) → LineMeans progress.link text (Err r) → Refuses settings progress text r
-  late : (t : TemplateValue) → LineMeans progress.link text (Ok t) → is_timely settings progress t ≡ false
+  many : (t : TemplateValue) → LineMeans progress.link text (Ok t) → is_counted settings t ≡ false
+      → Refuses settings progress text (Object (refusal None (codes "headers") TooMany))
+  late : (t : TemplateValue) → LineMeans progress.link text (Ok t) → is_counted settings t ≡ true
+      → is_timely settings progress t ≡ false
       → Refuses settings progress text (Object (refusal None (codes "time") OtherTime))
 
 -- Lines, the first with this number, mean these frames after what lines before left, to the end or to a line that is
@@ -145,7 +152,8 @@ pub data LinesMean (settings : Settings)
       → LinesMean settings number progress last (line ∷ lines) frames stop
   some : (number : ℕ) (progress last : Progress) (line : List ℕ) (t : TemplateValue) (lines : List (List ℕ))
       (frames : List FrameValue) (stop : Option (ℕ × LineRefusal))
-      → is_blank line ≡ false → LineMeans progress.link line (Ok t) → is_timely settings progress t ≡ true
+      → is_blank line ≡ false → LineMeans progress.link line (Ok t) → is_counted settings t ≡ true
+      → is_timely settings progress t ≡ true
       → LinesMean settings (number + 1) (after settings progress t) last lines frames stop
       → LinesMean settings number progress last (line ∷ lines) (frames_of settings progress t ++ frames) stop
   refused : (number : ℕ) (progress : Progress) (line : List ℕ) (lines : List (List ℕ)) (r : LineRefusal)

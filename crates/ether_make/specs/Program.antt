@@ -4,7 +4,7 @@ use Rattle.std.specs.Io.KnownBytes.{Appends, Consumes, IsAtEnd}
 use Rattle.std.specs.Io.{StopsAt}
 use Rattle.ether_make.specs.Captures.{Grows}
 use Rattle.ether_make.specs.Frames.{FrameValue}
-use Rattle.ether_make.specs.Lines.{LineMeans, LineRefusal, LinesMean, Progress, Refuses, after, frames_of, is_blank, is_timely, lines_in}
+use Rattle.ether_make.specs.Lines.{LineMeans, LineRefusal, LinesMean, Progress, Refuses, after, frames_of, is_blank, is_counted, is_timely, lines_in}
 use Rattle.ether_make.specs.Templates.{TemplateValue}
 use Rattle.ether_make.specs.LineViews.{IfTold, fault_view}
 use Rattle.ether_make.specs.Outputs.{IsBegunAs, IsOutput, IsOutputBegun, finished}
@@ -106,7 +106,7 @@ pub data TakesLine (settings : Settings) (text : List ℕ) (held holds : Option 
   blank : (progress : Progress) → is_blank text ≡ true → Appends held holds []
       → TakesLine settings text held holds progress progress
   some : (progress : Progress) (t : TemplateValue) → is_blank text ≡ false → LineMeans progress.link text (Ok t)
-      → is_timely settings progress t ≡ true
+      → is_counted settings t ≡ true → is_timely settings progress t ≡ true
       → Grows (IsBegunAs settings.form settings.fcs) progress.link (after settings progress t).link
       (map (finished settings) (frames_of settings progress t)) held holds
       → TakesLine settings text held holds progress (after settings progress t)

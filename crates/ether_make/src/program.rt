@@ -1,6 +1,6 @@
 //! What a run of the program makes of its input.
 ghost use Rattle.std.specs.Io.KnownBytes.{IsAtEnd, Keeps};
-ghost use Rattle.std.specs.Prelude.{◌≡◌, IfOk, IfErr, None, OnErr, OnOk};
+ghost use Rattle.std.specs.Prelude.{◌≡◌, ◌||◌, IfOk, IfErr, None, OnErr, OnOk, is_some, nat_lt};
 ghost use Rattle.ether_make.specs.Lines.{beginning, is_blank as is_blank_in};
 ghost use Rattle.ether_make.specs.Messages.{fault_status};
 ghost use Rattle.ether_make.specs.Program.{AfterFault, AfterReading, AfterTaking, BreaksLine, Continues, HasMade, IsOutputFault, IsWhole, ReadsLine, TakesLine};
@@ -214,6 +214,9 @@ fn line_series(
         Err(fault) => return Err(fault),
     };
     let count = settings.count.unwrap_or(template.found.combinations);
+    if !is_counted(settings.count, template.found.combinations) {
+        return Err(owned_refusal(alloc, "headers", Reason::TooMany));
+    }
     if !is_timely(settings.rate, progress.pace, template.frame.time, count) {
         return Err(owned_refusal(alloc, "time", Reason::OtherTime));
     }
@@ -221,6 +224,13 @@ fn line_series(
         Ok(series) => Ok((series, count)),
         Err(_) => Err(LineFault::Memory),
     }
+}
+
+/// Whether it is known how many frames a line has: combinations that 64 bits do not count are 0.
+fn is_counted(count: Option<u64>, combinations: u64) -> bool
+    ensures { result ≡ (is_some count || nat_lt 0 combinations) }
+{
+    count.is_some() || combinations > 0
 }
 
 /// The exit status after a line that means no frame: 3, or 5 if there is no memory.

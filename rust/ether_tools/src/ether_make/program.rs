@@ -183,6 +183,9 @@ fn line_series(
         Err(fault) => return Err(fault),
     };
     let count = settings.count.unwrap_or(template.found.combinations);
+    if !is_counted(settings.count, template.found.combinations) {
+        return Err(owned_refusal(alloc, "headers", Reason::TooMany));
+    }
     if !is_timely(settings.rate, progress.pace, template.frame.time, count) {
         return Err(owned_refusal(alloc, "time", Reason::OtherTime));
     }
@@ -190,6 +193,11 @@ fn line_series(
         Ok(series) => Ok((series, count)),
         Err(_) => Err(LineFault::Memory),
     }
+}
+
+/// Whether it is known how many frames a line has: combinations that 64 bits do not count are 0.
+fn is_counted(count: Option<u64>, combinations: u64) -> bool {
+    count.is_some() || combinations > 0
 }
 
 /// The exit status after a line that means no frame: 3, or 5 if there is no memory.
