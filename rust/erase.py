@@ -33,7 +33,7 @@ BY_HAND = [f"{NAME}/src/{path}.rs" for path in (
         "packet_headers", "payload_slice", "sliced_packet", "streams", "transport", "unchecked", "vlan_tags")),
 )] + [f"{PROGRAMS_NAME}/src/{path}.rs" for path in (
     "ether_text/noted", *(f"ether_capture/{it}" for it in ("capture_files", "copy_files", "count_table", "heap_memory", "heap_text", "interface_buffer", "memory", "options", "progress_line", "row_slots", "run_input")),
-    *(f"ether_make/{it}" for it in ("json", "memory", "named_files", "options", "random")),
+    *(f"ether_make/{it}" for it in ("json", "memory", "named_files", "options", "random", "repeated")),
 )]
 # The programs that are made, each with its folder; their `main`s are by hand. One is of tests.
 DRAWN = "drawn_calls"
@@ -82,7 +82,7 @@ EXAMPLES = [example for examples in TESTS.values() for example in examples]
 CRATE_NAMES = {*LIBRARIES, *EXAMPLES, *PROGRAMS, NAME, PROGRAMS_NAME}
 # Modules that are left out: laws, and the tests of a crate that is not in the result.
 LEFT_OUT, LEFT_OUT_OF_TESTS = {"laws"}, {"text"}
-LEFT_OUT_OF_PROGRAMS = {"laws", "noted", "main", "options", "capture_files", "copy_files", "count_table", "heap_memory", "heap_text", "interface_buffer", "named_files", "progress_line", "row_slots", "run_input"}
+LEFT_OUT_OF_PROGRAMS = {"laws", "noted", "main", "options", "capture_files", "copy_files", "count_table", "heap_memory", "heap_text", "interface_buffer", "named_files", "progress_line", "repeated", "row_slots", "run_input"}
 
 # What modules have besides with the feature `compat`: names of files by hand.
 ADDED = {

@@ -10,7 +10,9 @@ captures with what tshark reads in them. The last line is 'N passed, M failed'.
 import argparse
 import json
 import os
+import re
 import resource
+import select
 import shutil
 import struct
 import subprocess
@@ -66,6 +68,10 @@ ADDRESSES = "00005e000101" "020000000001"
 FRAMES = [
     Frame("no line", "", []),
     Frame("an empty line means nothing", "\n\n", []),
+    Frame("a line of whitespace means nothing (RFC 8259, 2)", " \n\t\n\r\n \t \r", []),
+    Frame("members of one name in two objects", line({"header": "eth", "type": 1}, {"header": "vlan", "type": 1}), ["00" * 12 + "0001" "0000" "0001"]),
+    Frame("127 levels", '{"headers":[],"number":' + "[" * 126 + "]" * 126 + "}\n", [""]),
+    Frame("lines that end in a carriage return", line(ETH).replace("\n", "\r\n") + "\r\n" + line(ETH).replace("\n", "\r\n"), [ADDRESSES + "0000"] * 2),
     Frame("no header", line(), [""]),
     Frame("a header with nothing given", line({"header": "eth"}), ["00" * 14]),
     Frame("addresses (IEEE 802.3, 3.2)", line({**ETH, "type": 0x0800}), [ADDRESSES + "0800"]),
@@ -147,16 +153,25 @@ FRAMES = [
     Frame("a rest without bytes", line(ETH, rest={"start": 14, "end": 60, "kind": "ether_type", "type": None}), [ADDRESSES + "0000"]),
     Frame("three lines, and one of them empty", line(ETH) + "\n" + line({"header": "eth", "type": 1}), [ADDRESSES + "0000", "00" * 12 + "0001"]),
     Frame("no line feed at the end", line(ETH).strip(), [ADDRESSES + "0000"]),
-    Frame("the last of two members of one name (RFC 8259, 4)", '{"headers":[{"header":"eth","type":1,"type":2}]}', ["00" * 12 + "0002"]),
 ]
+
+TWICE = "line 1: an object has two members of one name"
 
 REFUSED = [
     Refused("no JSON", "{\n", "line 1: this is no JSON text"),
     Refused("no UTF-8", "\"\udcff\"\n", "line 1: this is no JSON text"),
-    Refused("no object", "5\n", "line 1: headers is missing"),
+    Refused("no object", "5\n", "line 1: this is no object"),
+    Refused("an array", "[]\n", "line 1: this is no object"),
+    Refused("null", "null\n", "line 1: this is no object"),
     Refused("no headers", "{}\n", "line 1: headers is missing"),
     Refused("headers that are no array", '{"headers":{}}\n', "line 1: headers is no array"),
     Refused("an unknown member", '{"headers":[],"head":1}\n', "line 1: head is no member of this object"),
+    Refused("a name that clears a terminal", '{"headers":[],"\\u001b[2J\\u0007":1}\n', "line 1: \\u001b[2J\\u0007 is no member of this object"),
+    Refused("a name with a line feed", '{"headers":[],"a\\nether_make: b":1}\n', "line 1: a\\u000aether_make: b is no member of this object"),
+    Refused("a name with a backslash", '{"headers":[],"a\\\\u001b":1}\n', "line 1: a\\\\u001b is no member of this object"),
+    Refused("a name that is not ASCII (RFC 8259, 7)", '{"headers":[],"\u00e9\u202e\U0001d11e\u007f":1}\n', "line 1: \\u00e9\\u202e\\ud834\\udd1e\\u007f is no member of this object"),
+    Refused("a name of 64 characters", line(**{"a" * 64: 1}), f"line 1: {'a' * 64} is no member of this object"),
+    Refused("a long name", line({**ETH, "b" * 1_000_000: 1}), f"line 1: header 0: {'b' * 64}.. is no member of this object"),
     Refused("a fault without bytes", '{"fault":{},"headers":[]}\n', "line 1: bytes is missing"),
     Refused("a fault whose bytes are null", '{"fault":{"bytes":null},"headers":[]}\n', "line 1: bytes is missing"),
     Refused("a fault that is no object", '{"fault":"45","headers":[]}\n', "line 1: fault is no object"),
@@ -246,7 +261,23 @@ REFUSED = [
     Refused("an object over two lines", '{"headers":\n[]}\n', "line 1: this is no JSON text"),
     Refused("a comment", "// []\n", "line 1: this is no JSON text"),
     Refused("a number in hexadecimal", '{"headers":[{"header":"eth","type":0x800}]}\n', "line 1: this is no JSON text"),
-    Refused("a line of spaces", "  \n", "line 1: this is no JSON text"),
+    Refused("two members of one name (RFC 8259, 4)", '{"headers":[{"header":"eth","type":1,"type":2}]}\n', TWICE),
+    Refused("two members of one name and value", '{"headers":[{"header":"eth","type":1,"type":1}]}\n', TWICE),
+    Refused("two members of one name, and one of them null", '{"headers":[{"header":"eth","type":1,"type":null}]}\n', TWICE),
+    Refused("two members whose names are spelled in two ways", '{"headers":[{"header":"eth","type":1,"t\\u0079pe":2}]}\n', TWICE),
+    Refused("two lists of headers", '{"headers":[{"header":"eth"}],"headers":[]}\n', TWICE),
+    Refused("two members of a rest", line(ETH)[:-2] + ',"rest":{"bytes":"aa","bytes":"bb"}}\n', TWICE),
+    Refused("two members of a range", '{"headers":[{"header":"eth","type":{"from":1,"to":2,"to":3}}]}\n', TWICE),
+    Refused("two members of what is not used", '{"headers":[],"number":[{"a":1,"a":2}]}\n', TWICE),
+    Refused("two members in an array", '[{"a":1,"a":2}]\n', TWICE),
+    Refused("two members of one name in the second line", line(ETH) + '{"link":1,"link":1,"headers":[]}\n', TWICE.replace("1", "2"), (ADDRESSES + "0000",)),
+    Refused("a number beyond a float", '{"headers":[],"number":1e999}\n', "line 1: this is no JSON text"),
+    Refused("400 digits", '{"headers":[],"number":' + "9" * 400 + "}\n", "line 1: this is no JSON text"),
+    Refused("half of a surrogate pair", '{"headers":[],"number":"\\ud800"}\n', "line 1: this is no JSON text"),
+    Refused("128 levels", '{"headers":[],"number":' + "[" * 127 + "]" * 127 + "}\n", "line 1: this is no JSON text"),
+    Refused("whitespace that JSON does not have (RFC 8259, 2)", " \f\n", "line 1: this is no JSON text"),
+    Refused("a no-break space", "\u00a0\n", "line 1: this is no JSON text"),
+    Refused("the line's number counts blank lines", " \n\r\nx\n", "line 3: this is no JSON text"),
     Refused("a time with 33 bits", line(time="2106-02-07T06:28:16Z"), "line 1: time is a time before 1970 or after 7 February 2106"),
     Refused("a time before 1970", line(time="1969-12-31T23:59:59.999999999Z"), "line 1: time is a time before 1970 or after 7 February 2106"),
     Refused("the year 0", line(time="0000-01-01T00:00:00Z"), "line 1: time is a time before 1970 or after 7 February 2106"),
@@ -375,6 +406,16 @@ def refused_cases(program):
         yield case.name, made(program, case.lines), (before, f"ether_make: {case.said}\n", 3)
 
 
+def reason_cases():
+    """The REASONs in the table of FORMAT are those of the sources, in any order."""
+    top = os.path.join(os.path.dirname(os.path.abspath(__file__)), "..")
+    with open(f"{top}/crates/ether_make/src/refusal.rt", encoding="utf-8") as file:
+        reasons = re.findall(r'Reason::\w+ => "([^"]+)"', file.read())
+    with open(f"{top}/docs/FORMAT.md", encoding="utf-8") as file:
+        table = file.read().partition("REASON | When\n---|---\n")[2].partition("\n\n")[0]
+    yield "the reasons of FORMAT", sorted(it for row in table.splitlines() for it in row.partition(" | ")[0].split(", ")), sorted(reasons)
+
+
 def word_cases(program):
     def said(*words):
         done = subprocess.run([program, *words], stdin=subprocess.DEVNULL, capture_output=True, check=False)
@@ -400,6 +441,36 @@ def word_cases(program):
     yield "a folder", (done.stdout, done.stderr, done.returncode), (capture_of([]), b"ether_make: standard input: Is a directory (os error 21)\n", 4)
     for words, wrong in WRONG_WORDS.items():
         yield f"wrong words: {words}", said(*words.split()), ("", f"ether_make: {wrong}\n", 2)
+
+
+def live_cases(program):
+    """What is made of a line is written before the program waits for more."""
+    with subprocess.Popen([program, "--hex"], stdin=subprocess.PIPE, stdout=subprocess.PIPE, bufsize=0) as child:
+        for name, written, lines in (
+            ("a line", line(ETH), 1), ("the next line", line(ETH), 1), ("two lines and a part", line(ETH) * 2 + line(ETH)[:20], 2),
+            ("the other part", line(ETH)[20:], 1), ("more lines than a buffer has", line(ETH) * 500, 500), ("a blank line and one", "\n" + line(ETH), 1),
+        ):
+            child.stdin.write(written.encode())
+            wanted = (ADDRESSES + "0000\n") * lines
+            yield f"live: {name}", read_soon(child.stdout, len(wanted)), wanted
+        child.stdin.close()
+        yield "live: the end", (read_soon(child.stdout, 1), child.wait()), ("", 0)
+    with subprocess.Popen([program], stdin=subprocess.PIPE, stdout=subprocess.PIPE, bufsize=0) as child:
+        child.stdin.write(line(ETH).encode())
+        wanted = capture_of([bytes.fromhex(ADDRESSES + "0000")]).decode("latin-1")
+        yield "live: a capture", read_soon(child.stdout, len(wanted)), wanted
+        child.stdin.close()
+
+
+def read_soon(pipe, count_of_bytes, seconds=5):
+    """So many bytes of a pipe, or those that are there after some seconds."""
+    read = b""
+    while len(read) < count_of_bytes and select.select([pipe], [], [], seconds)[0]:
+        more = os.read(pipe.fileno(), count_of_bytes - len(read))
+        if not more:
+            break
+        read += more
+    return read.decode("latin-1")
 
 
 def scapy_cases(program):
@@ -594,7 +665,7 @@ def main():
     folder = os.path.dirname(given.program)
     built = os.path.join(folder, "..", "..", "ether_capture", "out", "ether_capture"), os.path.join(folder, "ether_capture")
     capture = given.capture or next((it for it in built if os.path.exists(it)), built[0])
-    cases = [*frame_cases(given.program), *memory_cases(given.program), *padded_cases(given.program), *checked_cases(given.program), *hex_cases(given.program), *refused_cases(given.program), *word_cases(given.program), *file_cases(given.program),
+    cases = [*frame_cases(given.program), *memory_cases(given.program), *padded_cases(given.program), *checked_cases(given.program), *hex_cases(given.program), *refused_cases(given.program), *reason_cases(), *word_cases(given.program), *live_cases(given.program), *file_cases(given.program),
              *scapy_cases(given.program), *tshark_cases(given.program),
              *printed_cases(given.program, capture), *exact_cases(given.program, capture), *range_cases(given.program), *sent_cases(given.program)]
     return count((name, got, wanted) for name, got, wanted in cases if given.word in name)

@@ -142,7 +142,10 @@ def many_cases(program):
     huge = counted("00:00:00:00:00:00", "ff:ff:ff:ff:ff:ff")
     done = made(program, line({**ETH, "dst": huge, "src": huge}))
     yield "too many combinations", (done.stderr.decode(), done.returncode), \
-        ("ether_make: line 1: header 0: src has too many combinations with the ranges before it\n", 3)
+        ("ether_make: line 1: headers has too many combinations of ranges without --count\n", 3)
+    done = made(program, line({**ETH, "dst": huge, "src": huge}, {"header": "vlan", "vid": counted(5, 6)}), "--count", "3")
+    yield "three of too many combinations", (done.stderr.decode(), [frame.hex() for _, frame in records_of(done.stdout)], done.returncode), \
+        ("", [f"00000000000{number}" "000000000000" "8100" "0005" "0000" for number in range(3)], 0)
     done = made(program, line({**ETH, "dst": huge, "src": {**huge, "random": True}}), "--count", "2")
     yield "what is drawn makes no combinations", (len(records_of(done.stdout)), done.returncode), (2, 0)
 

@@ -20,6 +20,7 @@ def rows(build, room):
     if printed(own) != printed(other):
         sys.exit("bench/frames/ranges.c does not write the same bytes")
     yield "frames of two ranges", callgrind.total(own, "/dev/null") / COUNT, callgrind.total(other, "/dev/null") / COUNT
+    yield "a byte of a check sequence", sequence_byte(build, room), None
     made = builds.run(sys.executable, f"{builds.TOP}/bench/captures/make.py", f"{room}/captures", "1")
     for name, packets in CAPTURES.items():
         path, count = f"{room}/captures/{name}.pcap", int(re.search(rf"{name}\.pcap: (\d+) packets", made)[1])
@@ -28,6 +29,17 @@ def rows(build, room):
             file.writelines(lines)
         printing = callgrind.total([build.capture, "--format", "json"], path) / count
         yield f"lines of JSON: {packets}", callgrind.total([build.make], f"{room}/{name}.json") / len(lines), printing
+
+
+def sequence_byte(build, room):
+    """What `--fcs` adds to the instructions of frames of 1,500 bytes, for a byte of them: 200 frames less 100."""
+    builds.write(room, {"long": json.dumps({"headers": [{"header": "eth"}], "rest": {"bytes": "a5" * 1486}}) + "\n"})
+
+    def more(*words):
+        few, many = (callgrind.total([build.make, *words, "--count", str(count), f"{room}/long"], "/dev/null") for count in (100, 200))
+        return many - few
+
+    return (more("--fcs") - more()) / (100 * 1500)
 
 
 def printed(command):

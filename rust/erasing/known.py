@@ -85,7 +85,7 @@ PROGRAM_PATHS = set(
 PROGRAM_METHODS = set(
     """as_bytes collect into_iter is_ascii_digit wrapping_mul flush kind parse position read saturating_mul split_at starts_with write write_all
     as_array as_bool as_mut_slice as_object as_str checked_add checked_div checked_mul copy_from_slice next_word split_at_mut
-    as_u64 clear first is_memory is_null is_object keys read_until truncate try_extend_from_slice try_push""".split()
+    all as_u64 chars clear fill_buf first is_memory is_null is_object keys read_until truncate try_extend_from_slice try_push""".split()
 )
 
 # What the programs among the examples use besides.

@@ -1,14 +1,14 @@
 -- A division by the generator, bit by bit.
-use Rattle.std.proofs.Common.{◌≡◌, ℕ, zero, suc, ◌+◌, ◌-◌, ◌*◌, ◌/◌, ◌%◌, ◌^◌, ◌<◌, ◌≤◌, List, [], ◌∷◌, ◌++◌, length, map, Bool, true, false, not, replicate, nat_eq, if◌then◌else◌, true≢false, refl, sym, ap, ap₂, subst, ◌∙◌, arith, length-append, drop, w32}
+use Rattle.std.proofs.Common.{◌≡◌, ℕ, zero, suc, ◌+◌, ◌-◌, ◌*◌, ◌/◌, ◌%◌, ◌^◌, ◌<◌, ◌≤◌, List, [], ◌∷◌, ◌++◌, length, map, Bool, true, false, not, replicate, nat_eq, if◌then◌else◌, refl, sym, ap, ap₂, subst, ◌∙◌, arith, length-append, w32}
 use Rattle.std.proofs.Math.Nat.{pow-suc}
 use Rattle.std.specs.Int.Bits.{bit_xor, xor_add_and}
-use Rattle.std.proofs.lemmas.List.{drop_all, length-map}
+use Rattle.std.proofs.lemmas.List.{length-map}
 use Rattle.std.proofs.lemmas.Nat.{xor_shr}
-use Rattle.std.proofs.Math.Bool.{beq}
 use Rattle.std.specs.Int.{to_le_bytes}
 use Rattle.ether_base.specs.Bytes.{bit}
 use Rattle.ether_make.specs.Bits.{bits}
 use Rattle.ether_make.specs.CheckSequences.{added, divided, generator, low_bits, plus, received, sent, check_sequence}
+use Rattle.ether_make.specs.CheckSteps.{TakesIn}
 
 -- ---- sums
 
@@ -62,19 +62,19 @@ added-zero (a ∷ p) (b ∷ q) h = ap (λ l. plus a b ∷ l) (added-zero p q (om
 
 -- ---- bits of numbers
 
-low-zero : (n : ℕ) → low_bits zero n ≡ []
+pub low-zero : (n : ℕ) → low_bits zero n ≡ []
 unfolding low_bits
 low-zero n = refl
 
-low-suc : (k n : ℕ) → low_bits (suc k) n ≡ nat_eq (n % 2) 1 ∷ low_bits k (n / 2)
+pub low-suc : (k n : ℕ) → low_bits (suc k) n ≡ nat_eq (n % 2) 1 ∷ low_bits k (n / 2)
 unfolding low_bits
 low-suc k n = refl
 
-length-low_bits : (k n : ℕ) → length (low_bits k n) ≡ k
+pub length-low_bits : (k n : ℕ) → length (low_bits k n) ≡ k
 length-low_bits zero n = rw (low-zero n) refl
 length-low_bits (suc k) n = rw (low-suc k n) (ap suc (length-low_bits k (n / 2)))
 
-half-fits : (k n : ℕ) → n < 2 ^ suc k → n / 2 < 2 ^ k
+pub half-fits : (k n : ℕ) → n < 2 ^ suc k → n / 2 < 2 ^ k
 half-fits k n h = let e : n < 2 ^ k * 2 = subst (λ (m : ℕ). n < m) (pow-suc 2 k) h in omega (arith, e)
 
 low-none : low_bits 1 0 ≡ low_bits 0 0 ++ false ∷ []
@@ -97,7 +97,7 @@ sum-bit (suc zero) (suc zero) h k = refl
 sum-bit x (suc (suc y)) h k = absurd (omega (arith, k))
 sum-bit (suc (suc x)) y h k = absurd (omega (arith, h))
 
-xor-bit : (a b : ℕ) → nat_eq (bit_xor a b % 2) 1 ≡ plus (nat_eq (a % 2) 1) (nat_eq (b % 2) 1)
+pub xor-bit : (a b : ℕ) → nat_eq (bit_xor a b % 2) 1 ≡ plus (nat_eq (a % 2) 1) (nat_eq (b % 2) 1)
 xor-bit a b =
     let e : bit_xor a b % 2 ≡ (a % 2 + b % 2) % 2 = omega (arith, xor_add_and a b) in
     ap (λ n. nat_eq n 1) e ∙ sum-bit (a % 2) (b % 2) (omega arith) (omega arith)
@@ -152,51 +152,8 @@ bit-one n r b rest h enough e =
     ∙ ap (λ l. added l rest) (added-comm generator (low_bits 32 (r / 2))
     ∙ ap (added (low_bits 32 (r / 2))) (sym generator-bits) ∙ sym (low-xor 32 (r / 2) 0xEDB88320)))
 
--- ---- the bits of two that are the same
-
-pub same-bit : (a b : Bool) → beq a b ≡ true → a ≡ b
-same-bit true true e = refl
-same-bit true false e = absurd (true≢false (sym e))
-same-bit false true e = absurd (true≢false (sym e))
-same-bit false false e = refl
-
-pub other-bit : (a b : Bool) → beq a b ≡ false → a ≡ not b
-other-bit true true e = absurd (true≢false e)
-other-bit true false e = refl
-other-bit false true e = refl
-other-bit false false e = absurd (true≢false e)
-
--- ---- a byte of a division
-
--- the next of the eight bits of a byte
-pub byte-bit : (left m n : ℕ) (r after : List Bool) (rest : List Bool) → 32 ≤ length rest
-    → ((n : ℕ) (rest : List Bool) → 32 ≤ length rest
-    → divided (suc n) (added r (nat_eq (left % 2) 1 ∷ rest)) ≡ divided n (added after rest))
-    → divided (suc m + n) (added r (low_bits (suc m) left ++ rest))
-    ≡ divided (m + n) (added after (low_bits m (left / 2) ++ rest))
-byte-bit left m n r after rest enough step =
-    let e : suc m + n ≡ suc (m + n) = omega arith in
-    rw (e, low-suc m left)
-    (step (m + n) (low_bits m (left / 2) ++ rest) (omega (arith, enough, length-append (low_bits m (left / 2)) rest)))
-
-pub byte-step : (k left n : ℕ) (r after : List Bool) (rest : List Bool) → k < 8 → 32 ≤ length rest
-    → ((n : ℕ) (rest : List Bool) → 32 ≤ length rest
-    → divided (suc n) (added r (nat_eq (left % 2) 1 ∷ rest)) ≡ divided n (added after rest))
-    → divided (8 - k + n) (added r (low_bits (8 - k) left ++ rest))
-    ≡ divided (8 - (k + 1) + n) (added after (low_bits (8 - (k + 1)) (left / 2) ++ rest))
-byte-step k left n r after rest h enough step =
-    let e : 8 - k ≡ suc (8 - (k + 1)) = omega (arith, h) in
-    rw e (byte-bit left (8 - (k + 1)) n r after rest enough step)
-
-pub byte-done : (k left n : ℕ) (r rest : List Bool) → 8 ≤ k
-    → divided (8 - k + n) (added r (low_bits (8 - k) left ++ rest)) ≡ divided n (added r rest)
-byte-done k left n r rest h =
-    let e : 8 - k ≡ zero = omega (arith, h) in
-    let none : 0 + n ≡ n = omega arith in
-    rw (e, low-zero left, none) refl
-
 -- the first 32 bits are complemented
-pub ones : low_bits 32 0xFFFFFFFF ≡ replicate 32 true
+ones : low_bits 32 0xFFFFFFFF ≡ replicate 32 true
 unfolding low_bits
 ones = refl
 
@@ -248,7 +205,7 @@ received-eight n rest =
     )
     (ap (λ b. b ∷ received rest) (omega arith))
 
-low-eight : (k n : ℕ)
+pub low-eight : (k n : ℕ)
     → low_bits (suc (suc (suc (suc (suc (suc (suc (suc k)))))))) n ≡ low_bits 8 n ++ low_bits k (n / 256)
 unfolding low_bits
 low-eight k n = let e : n / 256 ≡ n / 2 / 2 / 2 / 2 / 2 / 2 / 2 / 2 = omega arith in rw e refl
@@ -288,28 +245,23 @@ divided-zero p = refl
 pub complement : (r : ℕ) → r < 2 ^ 32 → to_le_bytes w32 (2 ^ 32 - 1 - r) ≡ received (map not (low_bits 32 r))
 complement r h = sym (ap received (low-not 32 r h) ∙ four (2 ^ 32 - 1 - r))
 
--- what is left after all bits
-pub check-done : (bytes : List ℕ) (i r : ℕ) → length bytes ≤ i
-    → divided (8 * length bytes) (added (replicate 32 true) (sent bytes ++ replicate 32 false))
-    ≡ divided (8 * (length bytes - i)) (added (low_bits 32 r) (sent (drop i bytes) ++ replicate 32 false))
+-- what is left after all bytes
+pub check-done : (bytes : List ℕ) (r : ℕ) → TakesIn 0xFFFFFFFF bytes r
     → received (map not (low_bits 32 r)) ≡ check_sequence bytes
-check-done bytes i r end all =
-    let steps : length (added (replicate 32 true) (sent bytes ++ replicate 32 false)) - 32 ≡ 8 * length bytes = omega (
+check-done bytes r taken =
+    let all = added (replicate 32 true) (sent bytes ++ replicate 32 false) in
+    let count : 8 * length bytes + 0 ≡ length all - 32 = omega (
       arith,
       length-added (replicate 32 true) (sent bytes ++ replicate 32 false)
           (omega (arith, length-append (sent bytes) (replicate 32 false))),
       length-append (sent bytes) (replicate 32 false),
       length-sent bytes,
     ) in
-    let none : 8 * (length bytes - i) ≡ zero = omega (arith, end) in
-    let left : divided (8 * length bytes) (added (replicate 32 true) (sent bytes ++ replicate 32 false))
-    ≡ low_bits 32 r =
-    all ∙ ap (λ l. divided (8 * (length bytes - i)) (added (low_bits 32 r) (sent l ++ replicate 32 false)))
-    (drop_all i bytes end)
-    ∙ ap (λ n. divided n (added (low_bits 32 r) (replicate 32 false))) none
-    ∙ divided-zero _ ∙ added-zeros 32 (low_bits 32 r) (length-low_bits 32 r) in
-    sym (ap (λ n. received (map not (divided n (added (replicate 32 true) (sent bytes ++ replicate 32 false))))) steps
-    ∙ ap (λ l. received (map not l)) left)
+    let left : low_bits 32 r ≡ divided (length all - 32) all =
+    sym (ap₂ (λ n o. divided n (added o (sent bytes ++ replicate 32 false))) (sym count) (sym ones)
+    ∙ taken 0 (replicate 32 false) (omega arith)
+    ∙ divided-zero _ ∙ added-zeros 32 (low_bits 32 r) (length-low_bits 32 r)) in
+    ap (λ l. received (map not l)) left
 
 length-received : (bits : List Bool) → length (received bits) ≤ length bits
 length-received (a ∷ b ∷ c ∷ d ∷ e ∷ f ∷ g ∷ h ∷ rest) = omega (arith, length-received rest)

@@ -6,6 +6,7 @@ pub mod FrameLemmas
 pub mod LineLemmas
 pub mod CaptureLemmas
 pub mod CheckLemmas
+pub mod TableLemmas
 pub mod DivisionLemmas
 pub mod OutputLemmas
 pub mod ReadLemmas

@@ -1,8 +1,9 @@
 -- Lines of a text.
-use Rattle.std.proofs.Common.{◌≡◌, ◌≢◌, ℕ, zero, suc, ◌-◌, ◌≤◌, List, [], ◌∷◌, ◌++◌, length, Option, Some, None, Result, Ok, Err, Bool, true, false, All, nat_eq, nat_lt, ◌==◌, if◌then◌else◌, refl, ap, subst, ne_eqb, arith, length-append}
+use Rattle.std.proofs.Common.{◌≡◌, ◌≢◌, ℕ, zero, suc, ◌-◌, ◌≤◌, List, [], ◌∷◌, ◌++◌, length, Option, Some, None, is_some, Result, Ok, Err, Bool, true, false, All, nat_eq, nat_lt, ◌==◌, if◌then◌else◌, refl, ap, subst, ne_eqb, arith, length-append}
 use Rattle.std.proofs.lemmas.Bool.{ltb-false}
 use Rattle.std.proofs.lemmas.List.Splits.{slice_split_none, slice_split_at}
 use Rattle.serde_json.specs.Data.{Data}
+use Rattle.serde_json.specs.Find.{as_object}
 use Rattle.ether_pcap.specs.Record.{max_captured_len}
 use Rattle.ether_make.specs.declared.template.Template.{Template}
 use Rattle.ether_pcap.specs.Writing.{zeros}
@@ -10,27 +11,41 @@ use Rattle.ether_make.specs.Frames.{FrameValue, padded}
 use Rattle.ether_make.specs.Templates.{TemplateValue, template_meaning}
 use Rattle.ether_make.specs.Lines.{LineRefusal, TooLong, LineMeans, IsJson, lines_in, longest, one_link, sized}
 use Rattle.ether_make.specs.Lines as meant
-use Rattle.ether_make.specs.LineViews.{TellsLine, LineOf, IsNotJson, IfTold, fault_view}
+use Rattle.ether_make.specs.LineViews.{TellsLine, LineOf, IsNoValue, IsNotJson, IfTold, fault_view}
 use Rattle.ether_make.specs.Refusals.{Meaning}
+use Rattle.ether_make.specs.Repeated.{IsUnique}
 use Rattle.ether_make.specs.declared.lines.LineFault.{LineFault}
 use Rattle.ether_make.specs.declared.lines.LineFault.TheVariants as faults
 
-told_object : (link : Option ℕ) (text : List ℕ) (d : Data) → IsJson text d → (told : Option LineRefusal)
+told_object : (link : Option ℕ) (text : List ℕ) (d : Data) → IsJson text d → is_some (as_object d) ≡ true
+    → IsUnique text → (told : Option LineRefusal)
     → IfTold (λ r. one_link link (sized (template_meaning d)) ≡ Err r) told
     → IfTold (λ r. LineMeans link text (Err r)) told
-told_object link text d json None h = tt
-told_object link text d json (Some r) h = subst (λ (m : Result TemplateValue LineRefusal). LineMeans link text m) h
-    (meant.object d json)
+told_object link text d json is unique None h = tt
+told_object link text d json is unique (Some r) h =
+    subst (λ (m : Result TemplateValue LineRefusal). LineMeans link text m) h (meant.object d json is unique)
 
-pub line-object : (link : Option ℕ) (text : List ℕ) (d : Data) → IsJson text d → (r : Result Template LineFault)
+pub line-object : (link : Option ℕ) (text : List ℕ) (d : Data) → IsJson text d → is_some (as_object d) ≡ true
+    → IsUnique text → (r : Result Template LineFault)
     → TellsLine (one_link link (sized (template_meaning d))) r → LineOf link text r
-line-object link text d json (Ok t) h =
-    subst (λ (m : Result TemplateValue LineRefusal). LineMeans link text m) h (meant.object d json)
-line-object link text d json (Err fault) h = told_object link text d json (fault_view fault) h
+line-object link text d json is unique (Ok t) h =
+    subst (λ (m : Result TemplateValue LineRefusal). LineMeans link text m) h (meant.object d json is unique)
+line-object link text d json is unique (Err fault) h =
+    told_object link text d json is unique (fault_view fault) h
 
-pub line-not_json : (link : Option ℕ) (text : List ℕ) (fault : LineFault) → IsNotJson text fault
+pub not-json : (text : List ℕ) (fault : LineFault) → IsNotJson text fault → IsNoValue text fault
+not-json text faults.NotJson h = h
+not-json text faults.NotObject h = absurd h
+not-json text faults.Repeated h = absurd h
+not-json text (faults.Refused header member reason) h = absurd h
+not-json text faults.TooLong h = absurd h
+not-json text faults.Memory h = tt
+
+pub line-not_json : (link : Option ℕ) (text : List ℕ) (fault : LineFault) → IsNoValue text fault
     → LineOf link text (Err fault)
 line-not_json link text faults.NotJson h = meant.not_json h
+line-not_json link text faults.NotObject h = absurd h
+line-not_json link text faults.Repeated h = meant.repeated h.0 h.1 h.2
 line-not_json link text (faults.Refused header member reason) h = absurd h
 line-not_json link text faults.TooLong h = absurd h
 line-not_json link text faults.Memory h = tt
@@ -60,8 +75,10 @@ linked-fits (Some link) (Err r) h = tt
 linked-fits (Some link) (Ok t) h = if-fits t _ (nat_eq t.frame.link link) h
 
 fits : (link : Option ℕ) (text : List ℕ) (m : Result TemplateValue LineRefusal) → LineMeans link text m → FitsIfOk m
-fits link text m (meant.object d json) =
+fits link text m (meant.object d json is unique) =
     linked-fits link (sized (template_meaning d)) (sized-fits (template_meaning d))
+fits link text m (meant.not_object d json is unique) = tt
+fits link text m (meant.repeated d json twice) = tt
 fits link text m (meant.not_json h) = tt
 
 length-zeros : (n : ℕ) → length (zeros n) ≡ n

@@ -1,19 +1,19 @@
 -- A run, line by line.
-use Rattle.std.proofs.Common.{◌≡◌, ◌≢◌, ℕ, ◌+◌, ◌-◌, ◌<◌, ◌≤◌, List, [], ◌∷◌, ◌++◌, length, map, Option, Some, None, IfSome, Err, Bool, true, false, All, refl, sym, ap, subst, ◌∙◌, arith, append_assoc}
+use Rattle.std.proofs.Common.{◌≡◌, ◌≢◌, ℕ, ◌+◌, ◌-◌, ◌≤◌, List, [], ◌∷◌, ◌++◌, length, map, Option, Some, None, IfSome, Err, Bool, true, false, All, refl, sym, ap, subst, ◌∙◌, arith, append_assoc}
 use Rattle.std.proofs.lemmas.List.{append-nil, map-append, take_at, length_push}
 use Rattle.std.proofs.lemmas.List.Elements.{All-take}
-use Rattle.std.proofs.KnownBytes.{Consumes-nil, Consumes-trans, Appends-nil, Appends-trans}
-use Rattle.std.specs.Io.KnownBytes.{Appends, Consumes, IsAtEnd}
+use Rattle.std.proofs.KnownBytes.{Consumes-nil, Consumes-trans, Appends-kept, Appends-nil, Appends-trans}
+use Rattle.std.specs.Io.KnownBytes.{Appends, Consumes, IsAtEnd, Keeps}
 use Rattle.std.specs.Io.{StopsAt}
 use Rattle.ether_make.specs.Captures.{Ends, Grows}
 use Rattle.ether_make.specs.Frames.{FrameValue}
 use Rattle.ether_make.specs.Outputs.{IsBegunAs, IsOutputBegun, IsWrittenAs, finished}
 use Rattle.ether_make.specs.declared.settings.Settings.{Settings}
 use Rattle.ether_make.specs.declared.series.Series.{Series}
-use Rattle.ether_make.specs.Lines.{LineMeans, LineRefusal, LinesMean, Progress, Refuses, all_linked, beginning, linked, frames_of, lines_in, longest}
+use Rattle.ether_make.specs.Lines.{LineMeans, LineRefusal, LinesMean, Progress, Refuses, all_linked, beginning, linked, frames_of, is_blank, lines_in, longest}
 use Rattle.ether_make.specs.Lines as meant
 use Rattle.ether_make.specs.LineViews.{IfTold, fault_view}
-use Rattle.ether_make.specs.Program.{Ran, HasMade, HasBroken, AfterLine, AfterFault, ReadsLine, TakesLine, RefusesLine, AfterTaking, Continues, IsWhole, line_end}
+use Rattle.ether_make.specs.Program.{Ran, HasMade, HasBroken, AfterLine, AfterFault, AfterReading, ReadsLine, TakesLine, RefusesLine, AfterTaking, Continues, IsWhole, line_end}
 use Rattle.ether_make.specs.Program as takes
 use Rattle.ether_make.specs.Serial.{IsSeriesOf, after_series, series_frames}
 use Rattle.ether_make.specs.declared.lines.Stop.{Stop}
@@ -45,23 +45,10 @@ pub record Doing (settings : Settings) (first : Progress) (before now held holds
 
 -- ---- a line that is read
 
-is_empty : (xs : List ℕ) → length xs ≡ 0 → xs ≡ []
-is_empty [] e = refl
-is_empty (x ∷ xs) e = absurd (omega arith)
-
 same_written : (held mid holds : Option (List ℕ)) (bytes : List ℕ) → Appends held mid bytes → Appends mid holds []
     → Appends held holds bytes
 same_written held mid holds bytes a b =
     subst (λ (bs : List ℕ). Appends held holds bs) (append-nil bytes) (Appends-trans held mid holds bytes [] a b)
-
--- what lines mean after an empty one
-empty_means : (settings : Settings) (number : ℕ) (progress last : Progress) (line : List ℕ) (lines : List (List ℕ))
-    (more : List FrameValue) (stop : Option (ℕ × LineRefusal)) → length line ≡ 0
-    → LinesMean settings (number + 1) progress last lines more stop
-    → LinesMean settings number progress last (line ∷ lines) more stop
-empty_means settings number progress last line lines more stop e h =
-    subst (λ (l : List ℕ). LinesMean settings number progress last (l ∷ lines) more stop) (sym (is_empty line e))
-    (meant.empty number progress last lines more stop h)
 
 whole_text : (text line later : List ℕ) → text ++ (line ++ 10 ∷ later) ≡ (text ++ (line ++ 10 ∷ [])) ++ later
 whole_text text line later =
@@ -123,9 +110,23 @@ doing-begin settings first before held = record {
   means = λ later more stop last h. h;
 }
 
+-- a writer that was flushed
+pub doing-kept : (settings : Settings) (first : Progress) (before now held mid holds : Option (List ℕ)) (number : ℕ)
+    (progress : Progress) → Doing settings first before now held mid number progress → Keeps mid holds
+    → Doing settings first before now held holds number progress
+doing-kept settings first before now held mid holds number progress d kept = record {
+  text = d.text;
+  frames = d.frames;
+  bytes = d.bytes;
+  read = d.read;
+  begun = d.begun;
+  written = Appends-kept held mid holds d.bytes d.written kept;
+  means = d.means;
+}
+
 -- what is written of the frames of a line
 pub line-taken : (settings : Settings) (text : List ℕ) (held holds : Option (List ℕ)) (progress next : Progress)
-    (count : ℕ) (s : Series) → 0 < length text → (made : IsSeriesOf settings progress text s count)
+    (count : ℕ) (s : Series) → is_blank text ≡ false → (made : IsSeriesOf settings progress text s count)
     → Grows (IsBegunAs settings.form settings.fcs) progress.link
     (all_linked progress.link (series_frames settings progress count s))
     (map (finished settings) (series_frames settings progress count s)) held holds
@@ -136,7 +137,7 @@ line-taken settings text held holds progress next count s some made grows is =
     series-frames settings progress t count s made.series made.counted in
     subst (λ (p : Progress). TakesLine settings text held holds progress p)
     (sym (is ∙ after-series settings progress t count s made.series made.counted))
-    (takes.some progress t some made.means made.timely
+    (takes.some progress t some made.means made.few made.timely
     (subst (λ (fs : List FrameValue). Grows (IsBegunAs settings.form settings.fcs) progress.link
     (all_linked progress.link fs) (map (finished settings) fs) held holds) same grows))
 
@@ -165,7 +166,7 @@ pub doing-line : (settings : Settings) (first : Progress) (before now after held
     (progress next : Progress) → Doing settings first before now held mid number progress
     → ReadsLine now after line true
     → TakesLine settings line mid holds progress next → Doing settings first before after held holds (number + 1) next
-doing-line settings first before now after held mid holds number line progress next d r (takes.empty p e a) = record {
+doing-line settings first before now after held mid holds number line progress next d r (takes.blank p e a) = record {
   text = d.text ++ (line ++ 10 ∷ []);
   frames = d.frames ++ [];
   bytes = d.bytes;
@@ -174,10 +175,10 @@ doing-line settings first before now after held mid holds number line progress n
       (sym (append-nil d.frames)) d.begun;
   written = same_written held mid holds d.bytes d.written a;
   means = ended_means settings first number (number + 1) p p d.text line d.frames [] r.one_line d.means
-      (λ lines more stop last h. empty_means settings number p last line lines more stop e h);
+      (λ lines more stop last h. meant.blank number p last line lines more stop e h);
 }
 doing-line settings first before now after held mid holds number line progress next d r
-    (takes.some p t some means timely g)
+    (takes.some p t some means few timely g)
     = record {
       text = d.text ++ (line ++ 10 ∷ []);
       frames = d.frames ++ frames_of settings p t;
@@ -188,7 +189,7 @@ doing-line settings first before now after held mid holds number line progress n
       written = Appends-trans held mid holds d.bytes g.more d.written g.written;
       means = ended_means settings first number (number + 1) p _ d.text line d.frames (frames_of settings p t)
           r.one_line d.means
-          (λ lines more stop last h. meant.some number p last line t lines more stop some means timely h);
+          (λ lines more stop last h. meant.some number p last line t lines more stop some means few timely h);
     }
 
 -- ---- the last line
@@ -220,7 +221,7 @@ pub doing-last : (settings : Settings) (first : Progress) (before now after held
     → ReadsLine now after line false
     → TakesLine settings line mid holds progress next
     → HasMade settings first (Continues settings first next) before after held holds
-doing-last settings first before now after held mid holds number line progress next d r (takes.empty p e a) = record {
+doing-last settings first before now after held mid holds number line progress next d r (takes.blank p e a) = record {
   ran = record {
     text = d.text ++ line;
     frames = d.frames ++ [];
@@ -228,7 +229,7 @@ doing-last settings first before now after held mid holds number line progress n
     bytes = d.bytes;
     read = read_last before now after d.text line d.read r.read;
     means = last_means settings first number p p d.text line d.frames [] None r.one_line d.means
-        (empty_means settings number p p line [] [] None e (meant.none (number + 1) p));
+        (meant.blank number p p line [] [] None e (meant.none (number + 1) p));
     is_written = subst (λ (fs : List FrameValue). Continues settings first p p fs d.bytes)
         (sym (append-nil d.frames))
         d.begun;
@@ -237,7 +238,7 @@ doing-last settings first before now after held mid holds number line progress n
   at_end = known_end before now after d.text d.read (r.at_end refl);
 }
 doing-last settings first before now after held mid holds number line progress next d r
-    (takes.some p t some means timely g)
+    (takes.some p t some means few timely g)
     = record {
       ran = record {
         text = d.text ++ line;
@@ -247,7 +248,7 @@ doing-last settings first before now after held mid holds number line progress n
         read = read_last before now after d.text line d.read r.read;
         means = last_means settings first number p (meant.after settings p t) d.text line d.frames
             (frames_of settings p t ++ []) None r.one_line d.means
-            (meant.some number p _ line t [] [] None some means timely (meant.none (number + 1) _));
+            (meant.some number p _ line t [] [] None some means few timely (meant.none (number + 1) _));
         is_written =
             subst (λ (fs : List FrameValue). Continues settings first (meant.after settings p t)
             (meant.after settings p t)
@@ -271,7 +272,7 @@ so_far settings first number progress text frames means =
     subst (λ (t : List ℕ). Whole (lines_in t) frames None) (append-nil text)
     (subst (λ (fs : List FrameValue). Whole (lines_in (text ++ [])) fs None) (append-nil frames)
     (means [] [] None progress
-    (meant.empty number progress progress [] [] None (meant.none (number + 1) progress))))
+    (meant.blank number progress progress [] [] [] None refl (meant.none (number + 1) progress))))
 
 pub doing-broken : (settings : Settings) (first : Progress) (before now after held mid holds : Option (List ℕ))
     (number : ℕ)
@@ -294,6 +295,17 @@ doing-broken settings first before now after held mid holds number progress part
   };
 }
 
+-- the reader or the writer failed before a line was made
+pub doing-unread : (settings : Settings) (first : Progress) (before now after held mid holds : Option (List ℕ))
+    (number : ℕ) (progress : Progress) (line : List ℕ) (fault : RunFault)
+    → Doing settings first before now held mid number progress → Keeps mid holds → AfterReading now after line fault
+    → AfterFault settings first (Continues settings first progress) before after held holds fault
+doing-unread settings first before now after held mid holds number progress line (runs.Line stop) d kept f = absurd f
+doing-unread settings first before now after held mid holds number progress line (runs.Input error) d kept f =
+    doing-broken settings first before now after held holds holds number progress line
+    (doing-kept settings first before now held mid holds number progress d kept) f.read f.one_line (Appends-nil holds)
+doing-unread settings first before now after held mid holds number progress line (runs.Output error) d kept f = tt
+
 stops_at : (line : List ℕ) (is_ended : Bool) → All (λ c. c ≢ 10) line → StopsAt (line ++ line_end is_ended) 10
 stops_at line true h =
     subst (λ (l : List ℕ). All (λ c. c ≢ 10) l)
@@ -309,7 +321,8 @@ refused_lines line false h = ([], ap lines_in (append-nil line) ∙ lines-last l
 
 after_line : (settings : Settings) (first : Progress) (before now after held mid holds : Option (List ℕ)) (number : ℕ)
     (progress : Progress) (line : List ℕ) (is_ended : Bool) (told : Option LineRefusal)
-    → Doing settings first before now held mid number progress → ReadsLine now after line is_ended → 0 < length line
+    → Doing settings first before now held mid number progress → ReadsLine now after line is_ended
+    → is_blank line ≡ false
     → IfTold (λ r. Refuses settings progress line r) told → Appends mid holds []
     → AfterLine settings first (Continues settings first progress) before after held holds number told
 after_line settings first before now after held mid holds number progress line is_ended None d r some means a =

@@ -12,10 +12,12 @@ pub mod Times
 pub mod Frames
 pub mod Templates
 pub mod FrameViews
+pub mod Repeated
 pub mod Lines
 pub mod LineViews
 pub mod Captures
 pub mod CheckSequences
+pub mod CheckSteps
 pub mod Divisions
 pub mod Outputs
 pub mod Serial

@@ -1,18 +1,22 @@
 -- What is returned for a line as its meaning.
 use Rattle.std.specs.Prelude.{◌≡◌, ℕ, List, Ok, Err, Result, Option, Some, None, IsUtf8, string_bytes}
+use Rattle.serde_json.specs.Data.{Data}
 use Rattle.serde_json.specs.Read.{read}
 use Rattle.ether_make.specs.FrameViews.{template_view}
 use Rattle.ether_make.specs.Templates.{TemplateValue}
-use Rattle.ether_make.specs.Lines.{LineRefusal, LineMeans}
+use Rattle.ether_make.specs.Lines.{IsJson, LineRefusal, LineMeans}
 use Rattle.ether_make.specs.Lines as lines
 use Rattle.ether_make.specs.Refusals.{RefusalValue, refused}
+use Rattle.ether_make.specs.Repeated.{IsRepeated}
 use Rattle.ether_make.specs.declared.template.Template.{Template}
 use Rattle.ether_make.specs.declared.lines.LineFault.{LineFault}
-use Rattle.ether_make.specs.declared.lines.LineFault.TheVariants.{NotJson, Refused, TooLong, Memory}
+use Rattle.ether_make.specs.declared.lines.LineFault.TheVariants.{NotJson, NotObject, Refused, Repeated, TooLong, Memory}
 
 -- the meaning that a fault tells, unless memory is short
 abbrev pub fault_view : LineFault → Option LineRefusal
 fault_view NotJson = Some lines.NotJson
+fault_view NotObject = Some lines.NotObject
+fault_view Repeated = Some lines.Repeated
 fault_view (Refused header member reason) = Some (lines.Object (refused header (string_bytes member) reason))
 fault_view TooLong = Some lines.TooLong
 fault_view Memory = None
@@ -26,6 +30,13 @@ abbrev pub IsNotJson : (text : List ℕ) → LineFault → Type 0
 IsNotJson text NotJson = IsUtf8 text → read text ≡ None
 IsNotJson text Memory = Unit {0}
 IsNotJson text fault = ⊥
+
+-- .. or one in which an object has two members of one name
+abbrev pub IsNoValue : (text : List ℕ) → LineFault → Type 0
+IsNoValue text NotJson = IsUtf8 text → read text ≡ None
+IsNoValue text Repeated = (d : Data) × IsJson text d × IsRepeated text
+IsNoValue text Memory = Unit {0}
+IsNoValue text fault = ⊥
 
 abbrev pub IsOwned : RefusalValue → LineFault → Type 0
 IsOwned r fault = IfTold (λ told. told ≡ lines.Object r) (fault_view fault)

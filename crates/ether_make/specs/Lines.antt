@@ -1,21 +1,25 @@
 -- The frames that lines of text mean.
-use Rattle.std.specs.Prelude.{◌≡◌, ◌==◌, ℕ, ◌+◌, ◌-◌, ◌<◌, ◌^◌, ◌&&◌, List, [], ◌∷◌, ◌++◌, length, codes, Bool, true, false, Option, Some, None, unwrap_or, Result, Ok, Err, nat_eq, nat_lt, IsUtf8, if◌then◌else◌}
-use Rattle.std.specs.List.{slice_split}
+use Rattle.std.specs.Prelude.{◌≡◌, ◌==◌, ℕ, ◌+◌, ◌-◌, ◌^◌, ◌&&◌, ◌||◌, List, [], ◌∷◌, ◌++◌, length, codes, Bool, true, false, Option, Some, None, is_some, unwrap_or, Result, Ok, Err, nat_eq, nat_lt, IsUtf8, if◌then◌else◌}
+use Rattle.std.specs.List.{list_all, slice_split}
 use Rattle.serde_json.specs.Data.{Data}
+use Rattle.serde_json.specs.Find.{as_object}
 use Rattle.serde_json.specs.Read.{read}
-use Rattle.ether_make.specs.declared.refusal.Reason.TheVariants.{OtherFrames, OtherTime}
+use Rattle.ether_make.specs.declared.refusal.Reason.TheVariants.{OtherFrames, OtherTime, TooMany}
 use Rattle.ether_make.specs.declared.progress.Pace.{Pace}
 use Rattle.ether_make.specs.declared.settings.Settings.{Settings}
 use Rattle.ether_make.specs.declared.time_text.Time.{Time}
 use Rattle.ether_make.specs.Frames.{FrameValue, padded}
 use Rattle.ether_make.specs.Templates.{TemplateValue, after_frames, frames_from, in_capture, later, template_meaning}
 use Rattle.ether_make.specs.Refusals.{Meaning, RefusalValue}
+use Rattle.ether_make.specs.Repeated.{IsRepeated, IsUnique}
 use Rattle.ether_make.specs.Refusals.{refused as refusal}
 
--- why a line means no frame: it is no JSON text, its object is refused, or the frame is longer than a packet of a
--- capture is
+-- why a line means no frame: it is no JSON text; an object in it has two members of one name; it is no object; its
+-- object is refused; or the frame is longer than a packet of a capture is
 pub data LineRefusal : Type 0 where
   NotJson : LineRefusal
+  NotObject : LineRefusal
+  Repeated : LineRefusal
   Object : RefusalValue → LineRefusal
   TooLong : LineRefusal
 
@@ -42,12 +46,24 @@ one_link (Some link) (Ok t) =
 
 -- what a line means after frames with this link type
 pub data LineMeans (link : Option ℕ) (text : List ℕ) : Result TemplateValue LineRefusal → Type 0 where
-  object : (d : Data) → IsJson text d → LineMeans link text (one_link link (sized (template_meaning d)))
+  object : (d : Data) → IsJson text d → is_some (as_object d) ≡ true → IsUnique text
+      → LineMeans link text (one_link link (sized (template_meaning d)))
+  not_object : (d : Data) → IsJson text d → is_some (as_object d) ≡ false → IsUnique text
+      → LineMeans link text (Err NotObject)
+  repeated : (d : Data) → IsJson text d → IsRepeated text → LineMeans link text (Err Repeated)
   not_json : (IsUtf8 text → read text ≡ None) → LineMeans link text (Err NotJson)
 
 -- the lines of a text: a line feed (10) is between two
 abbrev pub lines_in : List ℕ → List (List ℕ)
 lines_in text = slice_split (λ c. c == 10) text
+
+-- a space, a tab or a carriage return: whitespace of a JSON text (RFC 8259, 2) that a line can have
+abbrev pub is_space : ℕ → Bool
+is_space c = c == 32 || (c == 9 || c == 13)
+
+-- a line with nothing but whitespace
+abbrev pub is_blank : List ℕ → Bool
+is_blank line = list_all is_space line
 
 -- ---- one line after another
 
@@ -88,6 +104,10 @@ sent_before (Some p) = p.sent
 abbrev pub frame_count : Settings → TemplateValue → ℕ
 frame_count settings t = unwrap_or settings.count t.found.combinations
 
+-- whether it is known how many frames are made: combinations that 64 bits do not count (0) need a number that is asked for
+abbrev pub is_counted : Settings → TemplateValue → Bool
+is_counted settings t = is_some settings.count || nat_lt 0 t.found.combinations
+
 -- whether a capture can have the time of the last frame, and 64 bits the number of frames
 abbrev pub is_timely_at : (rate : Option ℕ) → Option Pace → Time → (count : ℕ) → Bool
 is_timely_at None pace t count = true
@@ -111,27 +131,31 @@ after settings progress t = record {
   state = after_frames (frame_count settings t) t.found.slots progress.state;
 }
 
--- a line that is refused: by itself, or since its frames would be too late
+-- a line that is refused: by itself, since its frames are too many, or since they would be too late
 pub data Refuses (settings : Settings) (progress : Progress) (text : List ℕ) : LineRefusal → Type 0 where
   meaning : (r : LineRefusal) → LineMeans progress.link text (Err r) → Refuses settings progress text r
-  late : (t : TemplateValue) → LineMeans progress.link text (Ok t) → is_timely settings progress t ≡ false
+  many : (t : TemplateValue) → LineMeans progress.link text (Ok t) → is_counted settings t ≡ false
+      → Refuses settings progress text (Object (refusal None (codes "headers") TooMany))
+  late : (t : TemplateValue) → LineMeans progress.link text (Ok t) → is_counted settings t ≡ true
+      → is_timely settings progress t ≡ false
       → Refuses settings progress text (Object (refusal None (codes "time") OtherTime))
 
 -- Lines, the first with this number, mean these frames after what lines before left, to the end or to a line that is
--- refused; and they leave something themselves. An empty line means nothing.
+-- refused; and they leave something themselves. A blank line means nothing.
 pub data LinesMean (settings : Settings)
     : (number : ℕ) → (first last : Progress) → (lines : List (List ℕ)) → (frames : List FrameValue)
     → Option (ℕ × LineRefusal) → Type 0 where
   none : (number : ℕ) (progress : Progress) → LinesMean settings number progress progress [] [] None
-  empty : (number : ℕ) (progress last : Progress) (lines : List (List ℕ)) (frames : List FrameValue)
-      (stop : Option (ℕ × LineRefusal))
-      → LinesMean settings (number + 1) progress last lines frames stop
-      → LinesMean settings number progress last ([] ∷ lines) frames stop
+  blank : (number : ℕ) (progress last : Progress) (line : List ℕ) (lines : List (List ℕ))
+      (frames : List FrameValue) (stop : Option (ℕ × LineRefusal))
+      → is_blank line ≡ true → LinesMean settings (number + 1) progress last lines frames stop
+      → LinesMean settings number progress last (line ∷ lines) frames stop
   some : (number : ℕ) (progress last : Progress) (line : List ℕ) (t : TemplateValue) (lines : List (List ℕ))
       (frames : List FrameValue) (stop : Option (ℕ × LineRefusal))
-      → 0 < length line → LineMeans progress.link line (Ok t) → is_timely settings progress t ≡ true
+      → is_blank line ≡ false → LineMeans progress.link line (Ok t) → is_counted settings t ≡ true
+      → is_timely settings progress t ≡ true
       → LinesMean settings (number + 1) (after settings progress t) last lines frames stop
       → LinesMean settings number progress last (line ∷ lines) (frames_of settings progress t ++ frames) stop
   refused : (number : ℕ) (progress : Progress) (line : List ℕ) (lines : List (List ℕ)) (r : LineRefusal)
-      → 0 < length line → Refuses settings progress line r
+      → is_blank line ≡ false → Refuses settings progress line r
       → LinesMean settings number progress progress (line ∷ lines) [] (Some (number, r))

@@ -24,7 +24,7 @@ reason_text OtherTime = codes "is a time before 1970 or after 7 February 2106"
 reason_text OtherHeader = codes "is not the link type of the first header"
 reason_text OtherFrames = codes "is not the link type of the frames before"
 reason_text NotARange = codes "is no range of numbers that the field has"
-reason_text TooMany = codes "has too many combinations with the ranges before it"
+reason_text TooMany = codes "has too many combinations of ranges without --count"
 
 -- the exit status after a line that means no frame
 abbrev pub fault_status : LineFault → ℕ

@@ -1,10 +1,10 @@
 -- What a run of the program makes of its input.
-use Rattle.std.specs.Prelude.{◌≡◌, ℕ, ◌<◌, List, [], ◌∷◌, ◌++◌, length, map, Bool, true, false, All, ◌≢◌, None, Option, Some, IfSome, Ok, if◌then◌else◌}
+use Rattle.std.specs.Prelude.{◌≡◌, ℕ, List, [], ◌∷◌, ◌++◌, map, Bool, true, false, All, ◌≢◌, None, Option, Some, IfSome, Ok, if◌then◌else◌}
 use Rattle.std.specs.Io.KnownBytes.{Appends, Consumes, IsAtEnd}
 use Rattle.std.specs.Io.{StopsAt}
 use Rattle.ether_make.specs.Captures.{Grows}
 use Rattle.ether_make.specs.Frames.{FrameValue}
-use Rattle.ether_make.specs.Lines.{LineMeans, LineRefusal, LinesMean, Progress, Refuses, after, frames_of, is_timely, lines_in}
+use Rattle.ether_make.specs.Lines.{LineMeans, LineRefusal, LinesMean, Progress, Refuses, after, frames_of, is_blank, is_counted, is_timely, lines_in}
 use Rattle.ether_make.specs.Templates.{TemplateValue}
 use Rattle.ether_make.specs.LineViews.{IfTold, fault_view}
 use Rattle.ether_make.specs.Outputs.{IsBegunAs, IsOutput, IsOutputBegun, finished}
@@ -88,13 +88,25 @@ pub record BreaksLine (before after : Option (List ℕ)) (line : List ℕ) : Typ
   pub read : Consumes before after line
   pub one_line : StopsAt line 10
 
--- a writer takes the frames of a line, or nothing of an empty one
+-- the writer failed
+abbrev pub IsOutputFault : RunFault → Type 0
+IsOutputFault (Line stop) = ⊥
+IsOutputFault (Input error) = ⊥
+IsOutputFault (Output error) = Unit {0}
+
+-- what is known after a fault before a line or in it; of one that the writer had nothing
+abbrev pub AfterReading : (before after : Option (List ℕ)) → (line : List ℕ) → RunFault → Type 0
+AfterReading before after line (Line stop) = ⊥
+AfterReading before after line (Input error) = BreaksLine before after line
+AfterReading before after line (Output error) = Unit {0}
+
+-- a writer takes the frames of a line, or nothing of a blank one
 pub data TakesLine (settings : Settings) (text : List ℕ) (held holds : Option (List ℕ))
     : (progress next : Progress) → Type 0 where
-  empty : (progress : Progress) → length text ≡ 0 → Appends held holds []
+  blank : (progress : Progress) → is_blank text ≡ true → Appends held holds []
       → TakesLine settings text held holds progress progress
-  some : (progress : Progress) (t : TemplateValue) → 0 < length text → LineMeans progress.link text (Ok t)
-      → is_timely settings progress t ≡ true
+  some : (progress : Progress) (t : TemplateValue) → is_blank text ≡ false → LineMeans progress.link text (Ok t)
+      → is_counted settings t ≡ true → is_timely settings progress t ≡ true
       → Grows (IsBegunAs settings.form settings.fcs) progress.link (after settings progress t).link
       (map (finished settings) (frames_of settings progress t)) held holds
       → TakesLine settings text held holds progress (after settings progress t)
@@ -104,7 +116,7 @@ pub record RefusesLine (settings : Settings) (number : ℕ) (text : List ℕ) (h
     (progress next : Progress) (stop : Stop) : Type 0 where
   pub line : stop.line ≡ number
   pub same : next ≡ progress
-  pub some : 0 < length text
+  pub some : is_blank text ≡ false
   pub means : IfTold (λ r. Refuses settings progress text r) (fault_view stop.fault)
   pub unwritten : Appends held holds []
 

@@ -5,7 +5,7 @@ use Rattle.ether_make.specs.declared.series.Series.{Series}
 use Rattle.ether_make.specs.declared.settings.Settings.{Settings}
 use Rattle.ether_make.specs.Frames.{FrameValue, padded}
 use Rattle.ether_make.specs.FrameViews.{frame_view}
-use Rattle.ether_make.specs.Lines.{LineMeans, Progress, Refuses, all_linked, frame_count, is_timely, paced, time_at}
+use Rattle.ether_make.specs.Lines.{LineMeans, Progress, Refuses, all_linked, frame_count, is_counted, is_timely, paced, time_at}
 use Rattle.ether_make.specs.LineViews.{IfTold, fault_view}
 use Rattle.ether_make.specs.declared.lines.LineFault.{LineFault}
 use Rattle.ether_make.specs.Outputs.{finished}
@@ -50,6 +50,7 @@ pub record IsSeriesOf (settings : Settings) (progress : Progress) (text : List �
     : Type 0 where
   pub template : TemplateValue
   pub means : LineMeans progress.link text (Ok template)
+  pub few : is_counted settings template ≡ true
   pub timely : is_timely settings progress template ≡ true
   pub series : IsSeries settings template s
   pub counted : count ≡ frame_count settings template

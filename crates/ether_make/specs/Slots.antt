@@ -11,7 +11,7 @@ use Rattle.ether_fields.specs.declared.part.Part.TheVariants.{Header}
 use Rattle.ether_fields.specs.declared.section.Section.{Section}
 use Rattle.ether_make.specs.declared.range.NumberRange.{NumberRange}
 use Rattle.ether_make.specs.declared.refusal.Reason.{Reason}
-use Rattle.ether_make.specs.declared.refusal.Reason.TheVariants.{NotARange, TooMany}
+use Rattle.ether_make.specs.declared.refusal.Reason.TheVariants.{NotARange}
 use Rattle.ether_make.specs.declared.sizes.Lengths.{Lengths}
 use Rattle.ether_make.specs.declared.slot.Slot.{Slot}
 use Rattle.ether_make.specs.Headers.{part, section_in, told}
@@ -21,7 +21,7 @@ use Rattle.ether_make.specs.Refusals.{Meaning}
 use Rattle.ether_make.specs.Sizes.{lengths_of}
 
 -- What was found in headers: the slots of their ranges, how many bits the headers have, and how many combinations the
--- numbers that are counted have.
+-- numbers that are counted have; 0 if 64 bits do not count them.
 pub record Found : Type 0 where
   pub slots : List Slot
   pub bits : ℕ
@@ -38,17 +38,21 @@ and_then (Ok x) next = next x
 abbrev pub choices : NumberRange → ℕ
 choices r = if r.is_random then 1 else r.last + 1
 
+-- combinations with those of a range more; 0 if 64 bits do not count them
+abbrev pub combined : (combinations : ℕ) → NumberRange → ℕ
+combined combinations r =
+    if nat_lt (combinations * choices r) (2 ^ 64) then combinations * choices r else 0
+
 -- ---- a field
 
 abbrev pub with_slot : (found : Found) → (len : ℕ) → NumberRange → Result Found Reason
 with_slot found len r =
-    if nat_lt (found.combinations * choices r) (2 ^ 64) then
     Ok (record found {
       slots =
           found.slots
           ++ record { at = found.bits; len = len; range = r; below = found.combinations } ∷ [];
-      combinations = found.combinations * choices r;
-    }) else Err TooMany
+      combinations = combined found.combinations r;
+    })
 
 abbrev pub with_range : (found : Found) → (len : ℕ) → Option NumberRange → Result Found Reason
 with_range found len None = Err NotARange

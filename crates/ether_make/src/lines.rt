@@ -1,12 +1,13 @@
 //! The frames that a line of text means.
-ghost use Rattle.std.specs.Prelude.{◌≡◌, None, IfOk, IfErr};
+ghost use Rattle.std.specs.Prelude.{◌≡◌, None};
 ghost use Rattle.serde_json.specs.View.{view};
-ghost use Rattle.ether_make.specs.Lines.{IsJson, one_link, sized};
-ghost use Rattle.ether_make.specs.LineViews.{IsNotJson, IsOwned, LineOf, TellsLine};
+ghost use Rattle.ether_make.specs.Lines.{one_link, sized};
+ghost use Rattle.ether_make.specs.LineViews.{IsOwned, LineOf, TellsLine};
 ghost use Rattle.ether_make.specs.Refusals.{refusal_view, refused};
 ghost use Rattle.ether_make.specs.Templates.{template_meaning};
 
 use crate::refusal::{Fault, Reason, Refusal};
+use crate::repeated::unique_value;
 use crate::template::{Template, make_template};
 use serde_json::Value;
 use std::alloc::Global;
@@ -19,6 +20,10 @@ const LONGEST: usize = 262_144;
 pub enum LineFault {
     /// It is no JSON text.
     NotJson,
+    /// It is no object.
+    NotObject,
+    /// An object in it has two members of one name.
+    Repeated,
     /// Its object is refused.
     Refused {
         /// The header's index, if a header is refused.
@@ -55,26 +60,14 @@ impl Stop {
 pub fn line_template(alloc: Global, text: &[u8], link: Option<u16>) -> Result<Template, LineFault>
     ensures { LineOf link text.now result }
 {
-    match value_of(alloc, text) {
-        Ok(value) => object_template(alloc, &value, link),
-        Err(fault) => Err(fault),
+    let value = match unique_value(alloc, text) {
+        Ok(value) => value,
+        Err(fault) => return Err(fault),
+    };
+    if !value.is_object() {
+        return Err(LineFault::NotObject);
     }
-}
-
-/// The value of a text.
-fn value_of(alloc: Global, text: &[u8]) -> Result<Value, LineFault>
-    ensures value { IfOk result (λ v. IsJson text.now (view v)) }
-    ensures fault { IfErr result (IsNotJson text.now) }
-{
-    match Value::from_slice(alloc, text) {
-        Ok(value) => Ok(value),
-        Err(error) => {
-            if error.is_memory() {
-                return Err(LineFault::Memory);
-            }
-            Err(LineFault::NotJson)
-        }
-    }
+    object_template(alloc, &value, link)
 }
 
 /// The frames of an object.

@@ -39,7 +39,7 @@ pub enum Reason {
     OtherFrames,
     /// The object is no range of the field's numbers.
     NotARange,
-    /// The ranges up to this one have too many combinations.
+    /// The ranges have more combinations than 64 bits count.
     TooMany,
 }
 
@@ -86,7 +86,7 @@ impl Reason {
             Reason::OtherHeader => "is not the link type of the first header",
             Reason::OtherFrames => "is not the link type of the frames before",
             Reason::NotARange => "is no range of numbers that the field has",
-            Reason::TooMany => "has too many combinations with the ranges before it",
+            Reason::TooMany => "has too many combinations of ranges without --count",
         }
     }
 }

@@ -7,7 +7,7 @@ ghost use Rattle.ether_fields.specs.Places.{bits_of};
 ghost use Rattle.ether_fields.specs.declared.part.Part.TheVariants.{Header};
 ghost use Rattle.ether_make.specs.Headers.{section_in as section_in_object};
 ghost use Rattle.ether_make.specs.Refusals.{Tells, result_map};
-ghost use Rattle.ether_make.specs.Slots.{after_field as after_field_in, after_fields as after_fields_in, after_headers as after_headers_in, after_section, choices as choices_in, field_found as field_found_in, lengthened, longer as longer_in, nothing, ranged as ranged_in, with_range as with_range_in, with_slot as with_slot_in};
+ghost use Rattle.ether_make.specs.Slots.{after_field as after_field_in, after_fields as after_fields_in, after_headers as after_headers_in, after_section, combined as combined_in, field_found as field_found_in, lengthened, longer as longer_in, nothing, ranged as ranged_in, with_range as with_range_in, with_slot as with_slot_in};
 ghost use Rattle.ether_make.specs.SlotViews.{found_view};
 
 use crate::header::{part, section_in};
@@ -28,7 +28,8 @@ pub struct Slot {
     pub len: usize,
     /// Its numbers.
     pub range: NumberRange,
-    /// How many combinations the ranges before it have: it has its next number after so many frames.
+    /// How many combinations the ranges before it have: it has its next number after so many frames. 0 if 64 bits do
+    /// not count them: then it keeps its first number.
     pub below: u64,
 }
 
@@ -39,7 +40,7 @@ pub struct Found {
     pub slots: Vec<Slot>,
     /// How many bits the headers have.
     pub bits: usize,
-    /// How many combinations of numbers there are.
+    /// How many combinations of numbers there are; 0 if 64 bits do not count them.
     pub combinations: u64,
 }
 
@@ -196,9 +197,7 @@ fn with_range(
     let Some(range) = range else {
         return Ok(Err(Reason::NotARange));
     };
-    let Some(combinations) = combined(found.combinations, &range) else {
-        return Ok(Err(Reason::TooMany));
-    };
+    let combinations = combined(found.combinations, &range);
     let mut slots = found.slots;
     slots.push(Slot {
         at: found.bits,
@@ -213,14 +212,13 @@ fn with_range(
     }))
 }
 
-/// The number of combinations with a range more, if it has 64 bits.
-fn combined(combinations: u64, range: &NumberRange) -> Option<u64>
-    ensures { result ≡ (if nat_lt (combinations * choices_in range.now) (2 ^ 64)
-        then Some (combinations * choices_in range.now) else None) }
+/// The number of combinations with a range more, or 0 if it has more than 64 bits.
+fn combined(combinations: u64, range: &NumberRange) -> u64
+    ensures { result ≡ combined_in combinations range.now }
 {
     if range.is_random {
-        return Some(combinations);
+        return combinations;
     }
     let product = u128::from(combinations) * (u128::from(range.last) + 1);
-    u64::try_from(product).ok()
+    u64::try_from(product).unwrap_or(0)
 }

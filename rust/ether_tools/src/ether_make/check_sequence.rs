@@ -1,7 +1,6 @@
 //! The frame check sequence of Ethernet.
 
-/// The generator without its highest power, the one of 31 first: the least significant bit is that of the power 31.
-const GENERATOR: u32 = 0xEDB8_8320;
+use crate::ether_make::check_tables::AFTER_STEPS;
 
 /// The check sequence of bytes, in the order in which it is sent.
 ///
@@ -14,10 +13,12 @@ const GENERATOR: u32 = 0xEDB8_8320;
 /// </details>
 pub fn check_sequence(bytes: &[u8]) -> [u8; 4] {
     let mut register = u32::MAX;
-    for byte in bytes {
-        register = with_byte(register, *byte);
+    let mut rest = bytes;
+    while let [a, b, c, d, tail @ ..] = rest {
+        register = with_four(register, *a, *b, *c, *d);
+        rest = tail;
     }
-    complemented(register)
+    complemented(with_bytes(register, rest))
 }
 
 /// The bytes of a remainder that is complemented.
@@ -25,23 +26,27 @@ fn complemented(register: u32) -> [u8; 4] {
     (!register).to_le_bytes()
 }
 
-/// Divides by the generator while the eight bits of a byte are taken.
-fn with_byte(register: u32, byte: u8) -> u32 {
-    let mut left = byte;
-    let mut register = register;
-    for _ in 0..8_u8 {
-        register = with_bit(register, left % 2 == 1);
-        left /= 2;
-    }
-    register
+/// Takes four bytes into the division at once.
+#[inline(always)]
+fn with_four(register: u32, a: u8, b: u8, c: u8, d: u8) -> u32 {
+    let sum = register ^ u32::from_le_bytes([a, b, c, d]);
+    AFTER_STEPS[3][(sum % 256) as usize]
+        ^ AFTER_STEPS[2][(sum / 256 % 256) as usize]
+        ^ AFTER_STEPS[1][(sum / 65_536 % 256) as usize]
+        ^ AFTER_STEPS[0][(sum / 16_777_216) as usize]
 }
 
-/// Divides by the generator while a bit is taken.
-fn with_bit(register: u32, bit: bool) -> u32 {
-    let shifted = register / 2;
-    if (register % 2 == 1) == bit {
-        shifted
-    } else {
-        shifted ^ GENERATOR
+/// Takes bytes into the division, one after the other.
+fn with_bytes(register: u32, bytes: &[u8]) -> u32 {
+    let mut after = register;
+    for byte in bytes {
+        after = with_byte(after, *byte);
     }
+    after
+}
+
+/// Takes a byte into the division.
+fn with_byte(register: u32, byte: u8) -> u32 {
+    let sum = register ^ u32::from(byte);
+    AFTER_STEPS[0][(sum % 256) as usize] ^ (sum / 256)
 }

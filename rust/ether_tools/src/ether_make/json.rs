@@ -21,9 +21,10 @@ pub enum Value {
     Other,
 }
 
-/// The members of an object, in the order of their names. One whose name is there again has the last value.
+/// The members of an object, in the order of their names.
 pub struct Map<K, V> {
     members: Vec<(K, V)>,
+    is_unique: bool,
 }
 
 /// A text is no value of JSON. `serde_json` ends the program if it gets no memory.
@@ -53,6 +54,15 @@ impl Value {
     pub fn get(&self, name: &str) -> Option<&Value> {
         let (_, value) = self.as_object()?.members.iter().find(|(other, _)| other == name)?;
         Some(value)
+    }
+
+    /// Tests that no object, at any depth, has two members of one name.
+    pub fn is_unique(&self) -> bool {
+        match self {
+            Value::Array(values) => values.iter().all(Value::is_unique),
+            Value::Object(map) => map.is_unique && map.members.iter().all(|(_, value)| value.is_unique()),
+            _ => true,
+        }
     }
 
     /// Tests that the value is `null`.
@@ -145,13 +155,7 @@ impl<'de> Visitor<'de> for AnyValue {
             members.push((name, value));
         }
         members.sort_by(|(name, _), (other, _)| name.cmp(other));
-        members.dedup_by(|later, earlier| {
-            let is_same = later.0 == earlier.0;
-            if is_same {
-                std::mem::swap(later, earlier);
-            }
-            is_same
-        });
-        Ok(Value::Object(Map { members }))
+        let is_unique = members.windows(2).all(|two| two[0].0 != two[1].0);
+        Ok(Value::Object(Map { members, is_unique }))
     }
 }

@@ -1,6 +1,7 @@
 //! The frames that a line of text means.
 
 use crate::ether_make::refusal::{Fault, Reason, Refusal};
+use crate::ether_make::repeated::unique_value;
 use crate::ether_make::template::{Template, make_template};
 use crate::ether_make::json::Value;
 use crate::ether_make::memory::Global;
@@ -13,6 +14,10 @@ const LONGEST: usize = 262_144;
 pub enum LineFault {
     /// It is no JSON text.
     NotJson,
+    /// It is no object.
+    NotObject,
+    /// An object in it has two members of one name.
+    Repeated,
     /// Its object is refused.
     Refused {
         /// The header's index, if a header is refused.
@@ -55,23 +60,14 @@ impl Stop {
 ///
 /// </details>
 pub fn line_template(alloc: Global, text: &[u8], link: Option<u16>) -> Result<Template, LineFault> {
-    match value_of(alloc, text) {
-        Ok(value) => object_template(alloc, &value, link),
-        Err(fault) => Err(fault),
+    let value = match unique_value(alloc, text) {
+        Ok(value) => value,
+        Err(fault) => return Err(fault),
+    };
+    if !value.is_object() {
+        return Err(LineFault::NotObject);
     }
-}
-
-/// The value of a text.
-fn value_of(alloc: Global, text: &[u8]) -> Result<Value, LineFault> {
-    match crate::ether_make::json::from_slice(alloc, text) {
-        Ok(value) => Ok(value),
-        Err(error) => {
-            if error.is_memory() {
-                return Err(LineFault::Memory);
-            }
-            Err(LineFault::NotJson)
-        }
-    }
+    object_template(alloc, &value, link)
 }
 
 /// The frames of an object.

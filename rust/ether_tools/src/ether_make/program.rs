@@ -6,6 +6,7 @@ use crate::ether_make::progress::{Progress, is_timely};
 use crate::ether_make::refusal::Reason;
 use crate::ether_make::series::{Series, series_of, write_series};
 use crate::ether_make::settings::Settings;
+use crate::ether_make::shown::Shown;
 use crate::ether_make::memory::Global;
 use std::io::{BufRead, Write};
 use std::{fmt, io};
@@ -20,8 +21,9 @@ pub enum RunFault {
     Output(io::Error),
 }
 
-/// Makes the frames of the lines of a reader, and writes them. Each frame is written before the next line is
-/// read. A line that means no frame ends the run; the output has the frames of the lines before it.
+/// Makes the frames of the lines of a reader, and writes them. The frames of all lines that are there are written
+/// before the program waits for input. A line that means no frame ends the run; the output has the frames of the
+/// lines before it.
 ///
 /// <details><summary>Contract</summary>
 ///
@@ -62,10 +64,11 @@ pub(in crate::ether_make) fn make_lines<R: BufRead, W: Write>(
     progress: &mut Progress,
 ) -> Result<(), RunFault> {
     let mut line = crate::ether_make::memory::list(alloc);
+    let mut buffered = 0;
     for number in 1..usize::MAX {
-        let is_ended = match read_line(reader, &mut line) {
+        let is_ended = match next_line(reader, writer, &mut buffered, &mut line) {
             Ok(is_ended) => is_ended,
-            Err(error) => return Err(RunFault::Input(error)),
+            Err(fault) => return Err(fault),
         };
         if let Err(fault) = take_line(alloc, settings, number, &line, writer, progress) {
             return Err(fault);
@@ -75,6 +78,51 @@ pub(in crate::ether_make) fn make_lines<R: BufRead, W: Write>(
         }
     }
     Err(RunFault::Line(Stop::MEMORY))
+}
+
+/// Reads a line, and returns whether a line feed was at its end. The writer is flushed before the program waits for
+/// input. `buffered` is how many bytes are known to be in the reader's buffer.
+fn next_line<R: BufRead, W: Write>(
+    reader: &mut R,
+    writer: &mut W,
+    buffered: &mut usize,
+    line: &mut Vec<u8>,
+) -> Result<bool, RunFault> {
+    if *buffered == 0 {
+        flush(writer)?;
+    }
+    let Some(len) = buffered_line(reader) else {
+        line.clear();
+        return Ok(false);
+    };
+    if len == 0 {
+        flush(writer)?;
+    }
+    match read_line(reader, line) {
+        Ok(is_ended) => {
+            *buffered = len.saturating_sub(line.len()).saturating_sub(1);
+            Ok(is_ended)
+        }
+        Err(error) => Err(RunFault::Input(error)),
+    }
+}
+
+/// Flushes a writer.
+fn flush<W: Write>(writer: &mut W) -> Result<(), RunFault> {
+    match writer.flush() {
+        Ok(()) => Ok(()),
+        Err(error) => Err(RunFault::Output(error)),
+    }
+}
+
+/// How many bytes are in the buffer of a reader if a whole line is among them, or 0; [`None`] at the end of the
+/// input. It waits for input if the buffer is empty. A fault is left to the next read.
+fn buffered_line<R: BufRead>(reader: &mut R) -> Option<usize> {
+    match reader.fill_buf() {
+        Ok([]) => None,
+        Ok(buffer) if buffer.contains(&b'\n') => Some(buffer.len()),
+        _ => Some(0),
+    }
 }
 
 /// Reads a line, and returns whether a line feed was at its end.
@@ -91,7 +139,7 @@ fn read_line<R: BufRead>(reader: &mut R, line: &mut Vec<u8>) -> io::Result<bool>
     Ok(false)
 }
 
-/// Makes the frames of a line, and writes them. An empty line means nothing.
+/// Makes the frames of a line, and writes them. A blank line means nothing.
 fn take_line<W: Write>(
     alloc: Global,
     settings: &Settings,
@@ -100,7 +148,7 @@ fn take_line<W: Write>(
     writer: &mut W,
     progress: &mut Progress,
 ) -> Result<(), RunFault> {
-    if text.is_empty() {
+    if is_blank(text) {
         return Ok(());
     }
     let (series, count) = match line_series(alloc, settings, text, progress) {
@@ -118,6 +166,11 @@ fn take_line<W: Write>(
     }
 }
 
+/// Whether a line has nothing but whitespace.
+fn is_blank(text: &[u8]) -> bool {
+    text.iter().all(|byte| matches!(byte, b' ' | b'\t' | b'\r'))
+}
+
 /// The frames of a line, and how many they are.
 fn line_series(
     alloc: Global,
@@ -130,6 +183,9 @@ fn line_series(
         Err(fault) => return Err(fault),
     };
     let count = settings.count.unwrap_or(template.found.combinations);
+    if !is_counted(settings.count, template.found.combinations) {
+        return Err(owned_refusal(alloc, "headers", Reason::TooMany));
+    }
     if !is_timely(settings.rate, progress.pace, template.frame.time, count) {
         return Err(owned_refusal(alloc, "time", Reason::OtherTime));
     }
@@ -137,6 +193,11 @@ fn line_series(
         Ok(series) => Ok((series, count)),
         Err(_) => Err(LineFault::Memory),
     }
+}
+
+/// Whether it is known how many frames a line has: combinations that 64 bits do not count are 0.
+fn is_counted(count: Option<u64>, combinations: u64) -> bool {
+    count.is_some() || combinations > 0
 }
 
 /// The exit status after a line that means no frame: 3, or 5 if there is no memory.
@@ -160,6 +221,10 @@ impl fmt::Display for Stop {
         let line = self.line;
         match &self.fault {
             LineFault::NotJson => write!(f, "line {line}: this is no JSON text"),
+            LineFault::NotObject => write!(f, "line {line}: this is no object"),
+            LineFault::Repeated => {
+                write!(f, "line {line}: an object has two members of one name")
+            }
             LineFault::TooLong => write!(f, "line {line}: the frame has more than 262144 bytes"),
             LineFault::Memory => write!(f, "out of memory"),
             LineFault::Refused {
@@ -168,14 +233,20 @@ impl fmt::Display for Stop {
                 reason,
             } => write!(
                 f,
-                "line {line}: header {header}: {member} {}",
+                "line {line}: header {header}: {} {}",
+                Shown(member.as_str()),
                 reason.text()
             ),
             LineFault::Refused {
                 header: None,
                 member,
                 reason,
-            } => write!(f, "line {line}: {member} {}", reason.text()),
+            } => write!(
+                f,
+                "line {line}: {} {}",
+                Shown(member.as_str()),
+                reason.text()
+            ),
         }
     }
 }

@@ -18,7 +18,8 @@ pub struct Slot {
     pub len: usize,
     /// Its numbers.
     pub range: NumberRange,
-    /// How many combinations the ranges before it have: it has its next number after so many frames.
+    /// How many combinations the ranges before it have: it has its next number after so many frames. 0 if 64 bits do
+    /// not count them: then it keeps its first number.
     pub below: u64,
 }
 
@@ -29,7 +30,7 @@ pub struct Found {
     pub slots: Vec<Slot>,
     /// How many bits the headers have.
     pub bits: usize,
-    /// How many combinations of numbers there are.
+    /// How many combinations of numbers there are; 0 if 64 bits do not count them.
     pub combinations: u64,
 }
 
@@ -172,9 +173,7 @@ fn with_range(
     let Some(range) = range else {
         return Ok(Err(Reason::NotARange));
     };
-    let Some(combinations) = combined(found.combinations, &range) else {
-        return Ok(Err(Reason::TooMany));
-    };
+    let combinations = combined(found.combinations, &range);
     let mut slots = found.slots;
     slots.try_push(Slot {
         at: found.bits,
@@ -189,11 +188,11 @@ fn with_range(
     }))
 }
 
-/// The number of combinations with a range more, if it has 64 bits.
-fn combined(combinations: u64, range: &NumberRange) -> Option<u64> {
+/// The number of combinations with a range more, or 0 if it has more than 64 bits.
+fn combined(combinations: u64, range: &NumberRange) -> u64 {
     if range.is_random {
-        return Some(combinations);
+        return combinations;
     }
     let product = u128::from(combinations) * (u128::from(range.last) + 1);
-    u64::try_from(product).ok()
+    u64::try_from(product).unwrap_or(0)
 }

@@ -1,16 +1,16 @@
-use Rattle.std.proofs.Common.{◌≡◌, ◌-◌, ◌*◌, ◌∙◌, ◌++◌, ap, sym, length, replicate, false, arith}
-use Rattle.ether_make.specs.CheckSequences.{added, divided, sent}
-use Rattle.ether_make.proofs.CheckLemmas.{check-done, ones}
+use Rattle.std.proofs.Common.{◌∙◌}
+use Rattle.ether_make.proofs.CheckLemmas.{check-done}
+use Rattle.ether_make.proofs.TableLemmas.{four-more}
 use Rattle.ether_make.proofs.check_sequence.check_sequence.Goals as goal
 
-pub loop-byte-init : goal.loop-byte-init
-loop-byte-init c =
-    let bytes = c.args.bytes.now in
-    let all : length bytes - 0 ≡ length bytes = omega arith in
-    rw all (ap (λ r. divided (8 * length bytes) (added r (sent bytes ++ replicate 32 false))) (sym ones))
+pub loop-rest-preserved : goal.loop-rest-preserved
+loop-rest-preserved c =
+    λ after taken.
+    c.loop-rest.invariant after
+    (four-more c.loop-rest.register c.with_four-register.result after c.loop-rest.rest.now c.in-len4-up.len_at_least
+    c.with_four-register.ensures taken)
 
 pub returns : goal.returns
 returns c =
     c.complemented.ensures
-    ∙ check-done c.args.bytes.now c.loop-byte.byte-index c.loop-byte.register c.loop-byte-test.false
-    c.loop-byte.invariant
+    ∙ check-done c.args.bytes.now c.with_bytes.result (c.loop-rest.invariant c.with_bytes.result c.with_bytes.ensures)
