@@ -507,7 +507,7 @@ def tshark_cases(program):
     capture = made(program, lines)[0]
     read = subprocess.run(words, input=capture, capture_output=True, check=False)
     yield "tshark's frames", len(read.stdout.splitlines()), sum(len(case.frames) for case in ethernet)
-    request = made(program, FRAMES[10].lines)[0]
+    request = made(program, next(case for case in FRAMES if case.name == "an ARP request").lines)[0]
     read = subprocess.run(words, input=request, capture_output=True, check=False)
     yield "tshark's ARP request", read.stdout.decode(), "42\t02:00:00:00:00:01\t\t10.9.0.2\n"
     capture = made(program, line(ETH, rest={"bytes": "ff" * 50}) + line(ETH, {"header": "arp"}), "--fcs", "--pad")[0]
