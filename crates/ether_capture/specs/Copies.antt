@@ -19,8 +19,8 @@ pub record HasRead (can_read can_write : Type 0) (task : TaskValue) (before afte
   pub run : HasRun task before after held holds end ⊎ HasNoMemory before after held holds end
   pub failed : IfErr end (λ fault. OnStreamFault fault (can_read ⊎ IsEndless before after) can_write)
 
--- .. and a file, which had these bytes, has what was made, if the capture was read to its end; else what was made before
--- the fault, if that is kept and is something; else it is as it was
+-- .. and a file, which had these bytes, has what was made, if the capture was read to its end; else what was made
+-- before the fault, if that is kept and is something; else it is as it was
 pub record HasCopied (can_read can_write : Type 0) (keeps : Bool) (task : TaskValue)
     (before after had gets : Option (List ℕ)) (end : Result Verdict RunFault) : Type 0 where
   pub held : Option (List ℕ)

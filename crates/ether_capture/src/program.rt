@@ -89,8 +89,8 @@ fn carry_out_words<'a, J: Journal + Drop, C: Captures, K: Copies, R: Source, W: 
     ensures obeyed { HasObeyed (world (reads (names (C.has captures.now) C.can_refuse C.Input.Source.can_fail)
         R.can_fail W.can_fail) (keeps K.can_refuse K.Part.Sink.can_fail (K.keeps_input copies.old))
         M.Sink.can_fail J.is_known) (Some (map string_bytes words.now)) (streams (R.remaining reader.old)
-        (W.contents writer.old) (M.Sink.contents messages.old) (K.file copies.old)) (streams (R.remaining reader.new) (W.contents writer.new)
-        (M.Sink.contents messages.new) (K.file copies.new)) result }
+        (W.contents writer.old) (M.Sink.contents messages.old) (K.file copies.old)) (streams (R.remaining reader.new)
+        (W.contents writer.new) (M.Sink.contents messages.new) (K.file copies.new)) result }
     ensures flushed { IfGone result (Settles W.is_flushed writer.old writer.new) }
     ensures told { Settles M.Sink.is_flushed messages.old messages.new ⊎ M.Sink.can_fail }
 {
