@@ -1,8 +1,8 @@
-"""Tests how `ether_capture`, as cargo builds it, ends on SIGINT and SIGTERM.
+"""Tests how `ether_capture` and `ether_make`, as cargo builds them, end on SIGINT, SIGTERM and SIGHUP.
 
     python3 rust/endings.py PROGRAM [WORD]
 
-PROGRAM is the built program, WORD one that the names of the cases have which count, all if it is left out. What is left out is said, and why.
+PROGRAM is the built ether_capture, with ether_make next to it, WORD one that the names of the cases have which count, all if it is left out. What is left out is said, and why.
 The last line is 'N passed, M failed'.
 """
 import argparse
@@ -35,7 +35,9 @@ RUNS = 5  # of `timeout`
 UNIT = CLASSIC[24:59]  # a record of 35 bytes
 MANY = CLASSIC[:24] + UNIT * 20_000
 UNREAD = "the rest of the input was not read\n"
-BY_INT, BY_TERM = (f"ether_capture: ended by {name}: {UNREAD}" for name in ("SIGINT", "SIGTERM"))
+BY_INT, BY_TERM, BY_HUP = (f"ether_capture: ended by {name}: {UNREAD}" for name in ("SIGINT", "SIGTERM", "SIGHUP"))
+LINE = b'{"headers":[{"header":"eth"}]}\n'
+FRAMES = bytes.fromhex("4d3cb2a1 0200 0400 00000000 00000000 00000400 01000000") + (bytes.fromhex("00000000 00000000 0e000000 0e000000") + bytes(14)) * 1_000
 # Writes a capture as tcpdump does: some packets at once and some later; those that wait when SIGINT comes it writes then, and ends.
 WRITER = f"""
 import os, signal, sys, time
@@ -198,6 +200,7 @@ def copies(program):
     for name, signals, status, said in (
         ("SIGTERM", [(signal.SIGTERM, 0)], 143, BY_TERM),
         ("SIGINT", [(signal.SIGINT, 0)], 130, BY_INT),
+        ("SIGHUP", [(signal.SIGHUP, 0)], 129, BY_HUP),
         ("SIGTERM twice at once", [(signal.SIGTERM, 0.2), (signal.SIGTERM, 0.02)], 143, BY_TERM),
     ):
         for words in (["-w", "copy"], ["-r", "/dev/stdin", "-w", "copy"]):
@@ -210,7 +213,7 @@ def copies(program):
         yield "the writer ends in time", (found[:4], contents(folder)), ((True, b"", "", 0), {"copy": MANY[:24 + 35 * 150]})
         found = signalled(program, ["-w", "copy"], cut, [(signal.SIGTERM, 0)], folder, has_part(folder, 24), b"", 0.4, True)
         wanted = f"standard input: byte {24 + 35 * 100}: A record of a pcap file needs 35 byte(s); only 17 are available.\n"
-        yield "the writer ends in time, amid a packet", (found[:4], contents(folder)), ((True, b"", wanted, 3), {"copy": MANY[:24 + 35 * 150]})
+        yield "the writer ends in time, amid a packet", (found[:4], contents(folder)), ((True, b"", wanted, 3), {"copy": MANY[:24 + 35 * 100]})
     yield "a writer that goes on", partial(endless, program), (143, BY_TERM, True, True, ["copy"], "")
     with tempfile.TemporaryDirectory() as folder:
         found = signalled(program, ["-w", "copy"], b"", [(signal.SIGTERM, 0)], folder, lambda: os.path.exists(os.path.join(folder, "copy.part")))
@@ -367,7 +370,27 @@ def timed_out(program):
     return found
 
 
-GROUPS = (pressed, captured, copies, lines, later)
+def frames(program):
+    """Signals to `ether_make`: the frames of whole lines are kept."""
+    make = os.path.join(os.path.dirname(program), "ether_make")
+    for number, status in ((signal.SIGINT, 130), (signal.SIGTERM, 143), (signal.SIGHUP, 129)):
+        said = f"ether_make: ended by {number.name}: {UNREAD}"
+        with tempfile.TemporaryDirectory() as folder:
+            found = signalled(make, ["-w", "copy"], LINE * 1_000 + LINE[:9], [(number, 0)], folder, has_part(folder, 1_000))
+            yield f"{number.name}, frames", (found[:4], 0.9 < found[4] < 3, contents(folder)), ((True, b"", said, status), True, {"copy": FRAMES})
+        with tempfile.TemporaryDirectory() as folder:
+            found = signalled(make, ["-w", "copy", "--hex", "--count", str(10 ** 12)], LINE, [(number, 0)], folder, has_part(folder, 1_000), ends=True)
+            copy = contents(folder).get("copy", b"")
+            yield f"{number.name}, a line without end", (found[:4], found[4] < 5, kinds(os.listdir(folder)), copy == (b"0" * 28 + b"\n") * (len(copy) // 29)), (
+                (True, b"", said, status), True, ["copy"], True)
+    with tempfile.TemporaryDirectory() as folder:
+        found = signalled(make, ["-w", "copy"], b"", [(signal.SIGTERM, 0)], folder, lambda: os.path.exists(os.path.join(folder, "copy.part")))
+        yield "no line has come", (found[:4], contents(folder)), ((True, b"", f"ether_make: ended by SIGTERM: {UNREAD}", 143), {})
+        found = signalled(make, ["-w", "copy"], LINE * 900, [(signal.SIGTERM, 0)], folder, has_part(folder, 1_000), LINE * 100, 0.3, True)
+        yield "the writer of lines ends in time", (found[:4], contents(folder)), ((True, b"", "", 0), {"copy": FRAMES})
+
+
+GROUPS = (pressed, captured, copies, lines, later, frames)
 
 
 TRIES = 3
@@ -389,7 +412,7 @@ def main():
     words.add_argument("word", metavar="WORD", nargs="?", default="")
     given = words.parse_args()
     program = os.path.realpath(given.program)
-    for number in (signal.SIGINT, signal.SIGTERM):
+    for number in (signal.SIGINT, signal.SIGTERM, signal.SIGHUP):
         signal.signal(number, signal.SIG_DFL)  # a shell ignores SIGINT in its jobs in the background, and what they start does so, too
     with concurrent.futures.ProcessPoolExecutor(len(GROUPS)) as pool:
         return count((it for listed in pool.map(ran, GROUPS, [program] * len(GROUPS)) for it in listed), given.word)

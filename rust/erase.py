@@ -23,7 +23,7 @@ HERE = os.path.dirname(os.path.abspath(__file__))
 CRATES = os.path.join(os.path.dirname(HERE), "crates")
 NAME = "etherpeel"
 CALLS, CALLS_NAME = "ether_c", "etherpeel_c"
-PROGRAMS, PROGRAMS_NAME = ["ether_text", "ether_stream", "ether_capture", "ether_make"], "ether_tools"  # what the programs are made of
+PROGRAMS, PROGRAMS_NAME = ["ether_text", "ether_files", "ether_stream", "ether_capture", "ether_make"], "ether_tools"  # what the programs are made of
 # By hand: what replaces sources that take the runtime or an allocator, and what the sources lack.
 ERROR_SOURCES, FUSED, SERIALIZED, COMPAT = "error_sources", "fused_iterators", "serialized", "compat"
 BY_HAND = [f"{NAME}/src/{path}.rs" for path in (
@@ -32,7 +32,8 @@ BY_HAND = [f"{NAME}/src/{path}.rs" for path in (
         "lax_link_ext_slice", "lax_macsec_slice", "lax_packet_headers", "lax_sliced_packet", "lax_walk", "net", "packet_builder",
         "packet_headers", "payload_slice", "sliced_packet", "streams", "transport", "unchecked", "vlan_tags")),
 )] + [f"{PROGRAMS_NAME}/src/{path}.rs" for path in (
-    "ether_text/noted", *(f"ether_capture/{it}" for it in ("capture_files", "copy_files", "count_table", "heap_memory", "heap_text", "interface_buffer", "memory", "options", "progress_line", "row_slots", "run_input")),
+    "ether_text/noted", "ether_files/closed", "ether_files/copy_files", "ether_files/own_output",
+    *(f"ether_capture/{it}" for it in ("capture_files", "count_table", "heap_memory", "heap_text", "interface_buffer", "memory", "options", "progress_line", "row_slots", "run_input")),
     *(f"ether_make/{it}" for it in ("json", "memory", "named_files", "options", "random", "repeated")),
 )]
 # The programs that are made, each with its folder; their `main`s are by hand. One is of tests.
@@ -82,7 +83,7 @@ EXAMPLES = [example for examples in TESTS.values() for example in examples]
 CRATE_NAMES = {*LIBRARIES, *EXAMPLES, *PROGRAMS, NAME, PROGRAMS_NAME}
 # Modules that are left out: laws, and the tests of a crate that is not in the result.
 LEFT_OUT, LEFT_OUT_OF_TESTS = {"laws"}, {"text"}
-LEFT_OUT_OF_PROGRAMS = {"laws", "noted", "main", "options", "capture_files", "copy_files", "count_table", "heap_memory", "heap_text", "interface_buffer", "named_files", "progress_line", "repeated", "row_slots", "run_input"}
+LEFT_OUT_OF_PROGRAMS = {"laws", "noted", "main", "options", "capture_files", "closed", "copy_files", "count_table", "heap_memory", "heap_text", "interface_buffer", "named_files", "own_output", "progress_line", "repeated", "row_slots", "run_input"}
 
 # What modules have besides with the feature `compat`: names of files by hand.
 ADDED = {

@@ -215,6 +215,21 @@ def killed_runs(program):
     ]
 
 
+def owners(program):
+    """A copy keeps the owner and the group of its file, which root alone can set."""
+    if os.getuid() != 0:
+        print("left out: the owner of a copy, since the tests don't run as root")
+        return
+    with tempfile.TemporaryDirectory() as folder:
+        filled(folder, {"one": CLASSIC, "two": OLD})
+        path = os.path.join(folder, "two")
+        os.chmod(path, 0o640)
+        os.chown(path, 12_345, 23_456)
+        status = run_apart(program, ["-w", "two", "one"], b"", cwd=folder)[2]
+        found = os.stat(path)
+    yield "the owner of a copy", (status, found.st_uid, found.st_gid, found.st_mode & 0o777, found.st_size), (0, 12_345, 23_456, 0o640, len(CLASSIC))
+
+
 def modes(program):
     """What may be done with a file before and after it gets a copy."""
     with tempfile.TemporaryDirectory() as folder:
@@ -260,7 +275,8 @@ def interrupted_calls(program):
 
 
 def synced(program):
-    """A copy is on the disk before it gets its name: fsync(2) or fdatasync(2) of the file, and then rename(2), as strace sees them."""
+    """A copy is on the disk before it gets its name, and its folder after that: fsync(2) or fdatasync(2) of the file, rename(2), and fsync(2) of the folder,
+    as strace sees them."""
     if not which("strace") or subprocess.run(["strace", "-o", "/dev/null", "true"], stderr=subprocess.DEVNULL, check=False).returncode:
         print("left out: whether a copy is on the disk before it gets its name, since strace is not there, or may not trace")
         return
@@ -270,7 +286,7 @@ def synced(program):
         done = subprocess.run(words, input=CLASSIC, cwd=folder, check=False)
         with open(log, encoding="utf-8") as file:
             calls = re.findall(r"(sync|rename)\w*\(.*?([\w.]+)[>\"]", file.read())
-    yield "a copy is on the disk before it gets its name", (done.returncode, calls), (0, [("sync", "two.part"), ("rename", "two.part")])
+    yield "a copy is on the disk before it gets its name", (done.returncode, calls), (0, [("sync", "two.part"), ("rename", "two.part"), ("sync", os.path.basename(folder))])
 
 
 def name_taken(program):
@@ -310,8 +326,15 @@ def progress(program):
         lines = [line.rpartition("\r")[2].split(",")[0] for line in found[1].split("\n")]
         said = ["120 of 120 bytes", *("cut" + record_is_cut(59, 62, 61) + "no" + NO_FILE).splitlines(), f"{size} of {size} bytes", ""]
         yield "--progress of several files", (lines, found[2]), (said, 4)
+    yield "--progress before counts", partial(shown_before_counts, program), "total\t\t2\t106\nvlan.vid\t1\t1\t60\nvlan.vid\t291\t1\t46\n"
     yield "--progress of a pipe with a name", partial(named_pipe, program), (CLASSIC_LINES, (size, None), 1)
     yield "--progress of a second", partial(slow_progress, program), (True, True, ((str(len(LONG)), None), ""))
+
+
+def shown_before_counts(program):
+    """What one file gets as standard output and standard error, as a terminal does: the line of reading has ended when the counts come."""
+    ran = subprocess.run([program, "--progress", "--stats", "--fields", "vlan.vid"], input=CLASSIC, stdout=subprocess.PIPE, stderr=subprocess.STDOUT, check=False)
+    return ran.stdout.decode().partition("\n")[2]
 
 
 def named_pipe(program):
@@ -339,6 +362,6 @@ def streams(program):
     yield "a copy to standard output by its name", partial(copied, program, ["-w", "-"], CLASSIC), (CLASSIC, "", 0)
     for name, words, given, files, text, said, status, changed in COPIES + READS:
         yield f"-w or -r: {name}", partial(done, program, words, given, files), (text, said, status, {**files, **changed})
-    for more in (files_too_large, files_of_others, protected_files, copies_in_place, links, synced, name_taken, killed_runs, modes, closed_pipes, interrupted_calls,
+    for more in (files_too_large, files_of_others, protected_files, copies_in_place, links, synced, name_taken, killed_runs, owners, modes, closed_pipes, interrupted_calls,
                  progress):
         yield from more(program)

@@ -29,6 +29,7 @@ from capture_streams import streams
 from counts import examples as counts
 from formats import examples
 from programs import count, on_a_full_disk, run, run_apart, run_until_a_fault, without_memory
+from written_files import capture_cases
 
 USAGE = """usage: ether_capture [-r FILE | FILE..] [SELECTION] [--limit N] [--jobs N]
                      [--progress] [--status-on-fault yes|no] [--plain |
@@ -581,7 +582,7 @@ def tried(program, unpacks):
         yield name, partial(copied, program, words, CLASSIC), (b"", text, 2)
     for more in (packed, several):
         yield from more(program, unpacks)
-    for more in (in_files, selections, limits, reasons, streams, examples, counts, copies, copies_of_copies, copies_that_fail,
+    for more in (in_files, selections, limits, reasons, streams, examples, counts, copies, copies_of_copies, copies_that_fail, capture_cases,
                  wrong_words_alone, helps, alone):
         yield from more(program)
 

@@ -24,6 +24,7 @@ from dataclasses import dataclass
 from programs import count
 from ranges import range_cases
 from sent_frames import sent_cases
+from written_files import make_cases
 
 
 @dataclass
@@ -566,13 +567,11 @@ def file_cases(program):
             capture_of(frames[:1]), f"ether_make: {missing}: No such file or directory (os error 2)\n", 4)
         yield "a folder among files", made(program, "", one, folder), (capture_of(frames[:1]), f"ether_make: {folder}: Is a directory (os error 21)\n", 4)
         yield "an output file", (made(program, line(ETH), "-w", path("made", "old")), content("made")), ((b"", "", 0), capture_of(frames[:1]))
-        yield "an output file with frames before a refusal", (made(program, "", wrong, "-w", path("made")), content("made")), (
-            (b"", f"ether_make: {wrong}: line 3: this is no JSON text\n", 3), capture_of(frames[:1]))
         yield "standard output by its name", made(program, line(ETH), "-w", "-"), (capture_of(frames[:1]), "", 0)
         nowhere = path("missing/made")
-        yield "an output in no folder", made(program, line(ETH), "-w", nowhere), (b"", f"ether_make: {nowhere}: No such file or directory (os error 2)\n", 4)
+        yield "an output in no folder", made(program, line(ETH), "-w", nowhere), (b"", f"ether_make: {nowhere}: can't be written: there is no such folder\n", 4)
         if os.path.exists("/dev/full"):
-            yield "a full output file", made(program, line(ETH), "-w", "/dev/full"), (b"", "ether_make: /dev/full: No space left on device (os error 28)\n", 4)
+            yield "a full output file", made(program, line(ETH), "-w", "/dev/full"), (b"", "ether_make: /dev/full: can't be written: no space is left\n", 4)
 
 
 # Gives the outermost VLAN tag with identifier 5 the identifier 7, as `--set-vlan 5:7` does.
@@ -665,10 +664,10 @@ def main():
     folder = os.path.dirname(given.program)
     built = os.path.join(folder, "..", "..", "ether_capture", "out", "ether_capture"), os.path.join(folder, "ether_capture")
     capture = given.capture or next((it for it in built if os.path.exists(it)), built[0])
-    cases = [*frame_cases(given.program), *memory_cases(given.program), *padded_cases(given.program), *checked_cases(given.program), *hex_cases(given.program), *refused_cases(given.program), *reason_cases(), *word_cases(given.program), *live_cases(given.program), *file_cases(given.program),
+    cases = [*frame_cases(given.program), *memory_cases(given.program), *padded_cases(given.program), *checked_cases(given.program), *hex_cases(given.program), *refused_cases(given.program), *reason_cases(), *word_cases(given.program), *live_cases(given.program), *file_cases(given.program), *make_cases(os.path.realpath(given.program)),
              *scapy_cases(given.program), *tshark_cases(given.program),
              *printed_cases(given.program, capture), *exact_cases(given.program, capture), *range_cases(given.program), *sent_cases(given.program)]
-    return count((name, got, wanted) for name, got, wanted in cases if given.word in name)
+    return count(cases, given.word)
 
 
 if __name__ == "__main__":

@@ -14,6 +14,7 @@ from dataclasses import dataclass
 from functools import partial
 
 from programs import count, run, run_in_pieces, run_until_a_fault, on_a_full_disk
+from written_files import closed_streams
 
 DISK_IS_FULL = ("ether_tool: standard output: No space left on device (os error 28)\n", 4)
 USAGE = "usage: ether_tool eth | fcs | sll | type XXXX | feed [limit N]\n"
@@ -486,6 +487,7 @@ def tried(program):
         yield f"a reader that fails after {length} bytes", found, ("".join(whole_lines(length)), 4)
     for words in (["eth"], ["feed"], ["ether"]):
         yield f"a full disk, {words}", partial(on_a_full_disk, program, words, TAGGED.encode()), DISK_IS_FULL
+    yield from closed_streams(program, "ether_tool", ("eth", "feed"), "lines", f"{TAGGED}\n".encode())
 
 
 def words_of_help(program):

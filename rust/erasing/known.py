@@ -77,7 +77,9 @@ PROGRAM_MACROS = {"write": "(", "writeln": "(", "format": "("}
 PROGRAM_NAMES = {"AllocError", "BufRead", "ErrorKind", "Global", "Map", "NextWord", "NonZeroUsize", "Noted", "PhantomData", "String", "Vec", "Read", "SeedableRng", "SplitMix64", "Taking", "Value", "Write", "from_slice", "json", "list", "list_for", "memory", "random", "tell_failure", "text_of"}
 PROGRAM_PATHS = set(
     """std::env std::error::Error std::fmt std::io std::io::ErrorKind std::io::Read std::io::Write std::marker::PhantomData std::num::NonZeroUsize
-    ErrorKind::Interrupted NonZeroUsize::new env::Args io::Error
+    ErrorKind::FileTooLarge ErrorKind::Interrupted ErrorKind::IsADirectory ErrorKind::NotADirectory ErrorKind::NotFound
+    ErrorKind::PermissionDenied ErrorKind::QuotaExceeded ErrorKind::ReadOnlyFilesystem ErrorKind::StorageFull
+    NonZeroUsize::new env::Args io::Error
     std::io::BufRead
     SplitMix64::seed_from_u64
     io::Result io::Sink io::Write io::sink hex::decode_to_slice hex::encode_to_slice thiserror::Error u64::MAX""".split()
@@ -85,7 +87,7 @@ PROGRAM_PATHS = set(
 PROGRAM_METHODS = set(
     """as_bytes collect into_iter is_ascii_digit wrapping_mul flush kind parse position read saturating_mul split_at starts_with write write_all
     as_array as_bool as_mut_slice as_object as_str checked_add checked_div checked_mul copy_from_slice next_word split_at_mut
-    all as_u64 chars clear fill_buf first is_memory is_null is_object keys read_until truncate try_extend_from_slice try_push""".split()
+    all as_u64 chars clear fill_buf first get_mut is_memory is_null is_object keys read_until truncate try_extend_from_slice try_push""".split()
 )
 
 # What the programs among the examples use besides.

@@ -1,5 +1,5 @@
 -- Texts that are cut at a byte, and the fields of lines.
-use Rattle.std.proofs.Common.{◌≡◌, ℕ, suc, ◌+◌, ◌*◌, ◌-◌, ◌<◌, List, take, slice_index_or, [], ◌∷◌, ◌++◌, length, Bool, true, false, refl, sym, ap, ◌∙◌, arith, append_assoc, append-nil}
+use Rattle.std.proofs.Common.{◌≡◌, ℕ, suc, ◌+◌, ◌*◌, ◌-◌, ◌<◌, List, take, take_all, slice_index_or, [], ◌∷◌, ◌++◌, length, Bool, true, false, refl, sym, ap, ◌∙◌, arith, append_assoc, append-nil}
 use Rattle.std.specs.Prelude.{◌==◌, if◌then◌else◌}
 use Rattle.std.specs.List.{All}
 use Rattle.std.proofs.Math.Seq.{take-suc}
@@ -73,6 +73,13 @@ pub decimal_more : (before : ℕ) (ds : List ℕ) (d : ℕ)
     → decimal_value before (ds ++ d ∷ []) ≡ decimal_value before ds * 10 + (d - 48)
 decimal_more before [] d = refl
 decimal_more before (x ∷ xs) d = decimal_more (before * 10 + (x - 48)) xs d
+
+pub decimal_last : (ds : List ℕ) (i : ℕ) → length ds ≡ i + 1
+    → decimal_value 0 ds ≡ decimal_value 0 (take i ds) * 10 + (slice_index_or ds i 0 - 48)
+decimal_last ds i is =
+    let whole : ds ≡ take (suc i) ds = sym (take_all (suc i) ds (omega (arith, is))) in
+    ap (decimal_value 0) (whole ∙ take-suc ds i 0 (omega (arith, is)))
+    ∙ decimal_more 0 (take i ds) (slice_index_or ds i 0)
 
 pub decimal_turn : (ds : List ℕ) (i value : ℕ) → i < length ds → value ≡ counted (decimal_value 0 (take i ds))
     → counted (counted (value * 10) + (slice_index_or ds i 0 - 48)) ≡ counted (decimal_value 0 (take (i + 1) ds))

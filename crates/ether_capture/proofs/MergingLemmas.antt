@@ -10,7 +10,6 @@ use Rattle.std.proofs.lemmas.Fmt.{decimal_nonempty, digits_decimal, digits_value
 use Rattle.std.proofs.lemmas.List.Elements.{All-append, All-cons, All-nil}
 use Rattle.std.proofs.Math.Seq.{take-suc}
 use Rattle.ether_capture.specs.KeyCounts.{Hit}
-use Rattle.ether_stream.specs.Packets.{counted}
 use Rattle.ether_capture.specs.RowFields.{decimal_value, last_piece, lines_of, pieces}
 use Rattle.ether_capture.specs.Statistics.{StatisticsRow, fields_line}
 use Rattle.ether_capture.specs.Merging.{AreCountLines, IsCountLine, IsDigit, IsNumber}
@@ -38,7 +37,8 @@ written_number n small =
       some = λ none. let long = decimal_nonempty n below in
           let zero : length (decimal n) ≡ 0 = ap length none in omega (arith, long, zero);
       all = are_digits (decimal n) (digits_decimal spells n below);
-      value = omega (arith, value, small);
+      value = sym value;
+      fits = below;
     }
 
 -- ---- a line is that of one count
@@ -75,7 +75,7 @@ same_split k (x ∷ xs) (y ∷ ys) bs cs l m e =
     let same = same_split k xs ys bs cs l m (ap rest_of e) in (λ i. head_of (e i) ∷ same.0 i, same.1)
 
 same_number : (ds es : List ℕ) (m n : ℕ) → ds ≡ es → IsNumber ds m → IsNumber es n → m ≡ n
-same_number ds es m n same a b = a.value ∙ ap (λ l. counted (decimal_value 0 l)) same ∙ sym b.value
+same_number ds es m n same a b = a.value ∙ ap (decimal_value 0) same ∙ sym b.value
 
 one_hit : (line : List ℕ) (h k : Hit) → IsCountLine line h → IsCountLine line k → h ≡ k
 one_hit line h k a b =

@@ -1,4 +1,3 @@
-pub mod Captures
 pub mod World
 pub mod Copies
 pub mod OptionTable

@@ -1,5 +1,5 @@
 -- Counts that were printed are added up.
-use Rattle.std.specs.Prelude.{◌≡◌, ◌≢◌, ◌⊎◌, ◌≤◌, ◌+◌, ℕ, List, [], ◌∷◌, ◌++◌, codes, length, Bool, Option, Ok, Err, ⊤}
+use Rattle.std.specs.Prelude.{◌≡◌, ◌≢◌, ◌⊎◌, ◌≤◌, ◌<◌, ◌+◌, ◌^◌, ℕ, List, [], ◌∷◌, ◌++◌, codes, length, Bool, Option, Ok, Err, ⊤}
 use Rattle.std.specs.Io.KnownBytes.{Appends, Consumes, IsAtEnd}
 use Rattle.std.specs.List.{All, flat_map}
 use Rattle.ether_text.specs.Run.{IsEndless}
@@ -20,11 +20,12 @@ use Rattle.ether_capture.specs.declared.statistics_format.StatisticsFormat.TheVa
 abbrev pub IsDigit : ℕ → Type 0
 IsDigit c = (48 ≤ c) × (c ≤ 57)
 
--- decimal digits, and the number that they spell
+-- decimal digits, and the number of 64 bits that they spell
 pub record IsNumber (digits : List ℕ) (number : ℕ) : Type 0 where
   pub some : digits ≢ []
   pub all : All IsDigit digits
-  pub value : number ≡ counted (decimal_value 0 digits)
+  pub value : number ≡ decimal_value 0 digits
+  pub fits : number < 2 ^ 64
 
 -- the line of a count: its key, its packets and its bytes, with a tab between two
 pub record IsCountLine (line : List ℕ) (h : Hit) : Type 0 where

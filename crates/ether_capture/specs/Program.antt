@@ -38,22 +38,22 @@ HasRunFile n can_write task name held holds (outcomes.NotOpened named fault) =
     (named.now ≡ name) × n.can_refuse fault × (holds ≡ held)
 HasRunFile n can_write task name held holds outcome = ⊥
 
--- Standard input was copied to the file of this name; or that can't get the copy, and is as it was.
+-- Standard input was copied to the file of this name; or that can't get the copy.
 abbrev pub HasCopiedInput : (can_fail : Type 0) → Kept → (task : TaskValue) → (output : List ℕ)
     → (before after had gets : Option (List ℕ)) → Outcome → Type 0
 HasCopiedInput can_fail k task output before after had gets (outcomes.Run end) =
-    IsCopied can_fail k task before after had gets (Ok end)
+    IsCopied can_fail k k.keeps_input task before after had gets (Ok end)
 HasCopiedInput can_fail k task output before after had gets (outcomes.NotWritten named fault) =
-    (named.now ≡ output) × IsCopied can_fail k task before after had gets (Err fault)
+    (named.now ≡ output) × IsCopied can_fail k k.keeps_input task before after had gets (Err fault)
 HasCopiedInput can_fail k task output before after had gets outcome = ⊥
 
--- .. the capture of this name was; or it can't be opened
+-- .. the capture of this name was, of which nothing is kept after a fault; or it can't be opened
 abbrev pub HasCopiedFile : Named → Kept → (task : TaskValue) → (name output : List ℕ)
     → (had gets : Option (List ℕ)) → Outcome → Type 0
 HasCopiedFile n k task name output had gets (outcomes.File named end) =
     (named.now ≡ name)
     × ((before after : Option (List ℕ)) × n.has name before
-    × IsCopied n.can_read k task before after had gets (Ok end))
+    × IsCopied n.can_read k false task before after had gets (Ok end))
 HasCopiedFile n k task name output had gets (outcomes.NotWritten named fault) =
     (named.now ≡ output) × (k.can_keep fault ⊎ k.can_copy) × (gets ≡ had)
 HasCopiedFile n k task name output had gets (outcomes.NotOpened named fault) =

@@ -1,8 +1,8 @@
 -- What is around the program: captures by their names, the standard streams, and files of copies. Each `can_..` is
 -- the claim that something can fail.
 use Rattle.std.specs.Prelude.{ℕ, List, Option, Bool}
-use Rattle.ether_stream.specs.declared.open_fault.OpenFault.{OpenFault}
-use Rattle.ether_stream.specs.declared.write_fault.WriteFault.{WriteFault}
+use Rattle.ether_files.specs.declared.open_fault.OpenFault.{OpenFault}
+use Rattle.ether_files.specs.declared.write_fault.WriteFault.{WriteFault}
 
 -- captures by their names
 pub record Named : Type 1 where
@@ -19,6 +19,8 @@ pub record Kept : Type 1 where
   pub can_keep : WriteFault → Type 0
   -- writing one can fail
   pub can_copy : Type 0
+  -- what was copied of standard input before a fault is kept
+  pub keeps_input : Bool
 
 -- captures, and standard input and output
 pub record Reading : Type 1 where
@@ -54,8 +56,9 @@ abbrev pub names : (has : List ℕ → Option (List ℕ) → Type 0) → (can_re
     → (can_read : Type 0) → Named
 names has can_refuse can_read = record { has = has; can_refuse = can_refuse; can_read = can_read }
 
-abbrev pub keeps : (can_keep : WriteFault → Type 0) → (can_copy : Type 0) → Kept
-keeps can_keep can_copy = record { can_keep = can_keep; can_copy = can_copy }
+abbrev pub keeps : (can_keep : WriteFault → Type 0) → (can_copy : Type 0) → (keeps_input : Bool) → Kept
+keeps can_keep can_copy keeps_input =
+    record { can_keep = can_keep; can_copy = can_copy; keeps_input = keeps_input }
 
 abbrev pub reads : Named → (can_fail can_write : Type 0) → Reading
 reads named can_fail can_write = record { named = named; can_fail = can_fail; can_write = can_write }

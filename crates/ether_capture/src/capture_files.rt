@@ -1,31 +1,35 @@
 //! Opens captures in the file system.
 ghost use Rattle.std.specs.Prelude.{◌≡◌, ⊤};
-ghost use Rattle.std.specs.IoError.{error_kind};
-ghost use Rattle.ether_capture.specs.Captures.{open_fault_of};
 
 use crate::captures::Captures;
 use crate::progress_line::{Gauge, Meter};
-use ether_stream::OpenFault;
+use ether_files::{OpenFault, OwnOutput};
+use std::fs;
 use std::fs::OpenFile;
-use std::io::{ErrorKind, Write};
+use std::io::Write;
 use std::rt::Files;
 use std::time::Clock;
-use std::{fs, io};
 
 /// Captures in files, and what shows how far they are read.
 #[derive(Drop)]
 pub struct CaptureFiles<'a, H, M> {
     host: &'a H,
     gauge: &'a Gauge<'a, H, M>,
+    output: OwnOutput,
 }
 
 impl<'a, H, M> CaptureFiles<'a, H, M> {
-    /// The captures in all files; `gauge` shows how far they are read.
-    pub fn new(host: &'a H, gauge: &'a Gauge<'a, H, M>) -> Self
+    /// The captures in all files but the one that is `output`; `gauge` shows how far they are read.
+    pub fn new(host: &'a H, gauge: &'a Gauge<'a, H, M>, output: OwnOutput) -> Self
         ensures host { result.host.now ≡ host.now }
         ensures gauge { result.gauge.now ≡ gauge.now }
+        ensures output { result.output ≡ output }
     {
-        CaptureFiles { host, gauge }
+        CaptureFiles {
+            host,
+            gauge,
+            output,
+        }
     }
 }
 
@@ -39,11 +43,16 @@ impl<'a, H: Files + Clock, M: Write + Copy> Captures for CaptureFiles<'a, H, M> 
     fn open_named(&self, name: &str) -> Result<Meter<'a, H::File, H, M>, OpenFault> {
         let file = match fs::open(self.host, name) {
             Ok(file) => file,
-            Err(error) => return Err(open_fault(&error)),
+            Err(error) => return Err(OpenFault::of(&error)),
         };
         let size = match file.metadata() {
             Ok(metadata) if metadata.is_dir() => return Err(OpenFault::IsADirectory),
-            Ok(metadata) if metadata.is_file() => Some(metadata.len()),
+            Ok(metadata) if metadata.is_file() => {
+                if metadata.len() > 0 && self.output.is(&metadata) {
+                    return Err(OpenFault::IsOutput);
+                }
+                Some(metadata.len())
+            }
             _ => None,
         };
         Ok(Meter::new(file, size, self.gauge))
@@ -55,17 +64,5 @@ impl<'a, H: Files + Clock, M: Write + Copy> Captures for CaptureFiles<'a, H, M> 
 
     fn end_line(&self) {
         self.gauge.end_line();
-    }
-}
-
-/// Why a capture can't be opened, by the system's error.
-fn open_fault(error: &io::Error) -> OpenFault
-    ensures { result ≡ open_fault_of (error_kind error.now) }
-{
-    match error.kind() {
-        ErrorKind::NotFound => OpenFault::NotFound,
-        ErrorKind::PermissionDenied => OpenFault::PermissionDenied,
-        ErrorKind::IsADirectory => OpenFault::IsADirectory,
-        _ => OpenFault::Other,
     }
 }

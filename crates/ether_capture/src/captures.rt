@@ -1,7 +1,7 @@
 //! What opens captures by their names.
 ghost use Rattle.std.specs.Prelude.{ℕ, List, Option, IfErr, IfOk};
 
-use ether_stream::OpenFault;
+use ether_files::OpenFault;
 use ether_text::Source;
 
 /// What opens captures by their names, and can show how far they are read.
@@ -9,7 +9,7 @@ use ether_text::Source;
 /// What is proved for all of them holds for one that can't fail, too. So a call that reports that a capture can't be
 /// opened has tried it.
 pub trait Captures {
-    ghost use Rattle.ether_stream.specs.declared.open_fault.OpenFault.{OpenFault};
+    ghost use Rattle.ether_files.specs.declared.open_fault.OpenFault.{OpenFault};
 
     /// The bytes of a capture.
     type Input: Source + Drop;

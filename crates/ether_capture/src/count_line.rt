@@ -1,8 +1,9 @@
 //! Lines of counts.
-ghost use Rattle.std.specs.Prelude.{◌≡◌, ◌≢◌, ◌==◌, ◌↔◌, ◌∷◌, ◌++◌, ℕ, [], List, IfNone, IfSome, IsTrue, true, false};
+ghost use Rattle.std.specs.Prelude.{◌≡◌, ◌≢◌, ◌==◌, ◌↔◌, ◌∷◌, ◌++◌, ◌<◌, ◌≤◌, ◌^◌, ℕ, [], List, length, IfNone, IfSome, IsTrue, true, false};
 ghost use Rattle.std.specs.List.{All};
 ghost use Rattle.ether_capture.specs.KeyCounts.{Hit};
 ghost use Rattle.ether_capture.specs.Merging.{IsCountLine, IsDigit, IsNumber};
+ghost use Rattle.ether_capture.specs.RowFields.{decimal_value};
 
 use crate::count::Count;
 use crate::rows::decimal_value;
@@ -28,7 +29,19 @@ fn last_number(text: &[u8]) -> Option<(&[u8], usize)>
     if digits.is_empty() || !are_digits(digits) {
         return None;
     }
-    Some((front, decimal_value(digits)))
+    let number = exact_value(digits)?;
+    Some((front, number))
+}
+
+/// The number that decimal digits spell. Returns `None` if 64 bits don't hold it.
+fn exact_value(digits: &[u8]) -> Option<usize>
+    requires { 0 < length digits.now }
+    ensures some { IfSome result (λ n. (n ≡ decimal_value 0 digits.now) × (n < 2 ^ 64)) }
+    ensures none { IfNone result (2 ^ 64 ≤ decimal_value 0 digits.now) }
+{
+    let last = digits.len() - 1;
+    let front = decimal_value(&digits[..last]).checked_mul(10)?;
+    front.checked_add(usize::from(digits[last].saturating_sub(48)))
 }
 
 /// The parts of a text before and after the last `byte`. Returns `None` if it has no such byte.

@@ -9,9 +9,9 @@ ghost use Rattle.ether_capture.specs.declared.statistics_format.Counting.{Counti
 ghost use Rattle.ether_stream.specs.declared.outcome.Outcome.{Outcome};
 
 use crate::captures::Captures;
-use crate::copies::Copies;
 use crate::journal::Journal;
 use arrayvec::ArrayVec;
+use ether_files::Copies;
 use ether_output::Sink;
 use ether_stream::LineSink;
 use ether_text::Source;
@@ -29,11 +29,12 @@ pub fn counts_add_up()
 /// If counts are asked for, the outcome says that the writer has failed only if that can fail.
 pub fn counts_are_written<J: Journal, C: Captures, K: Copies, R: Source, W: Sink, M: LineSink>(
     _captures: &C,
+    _copies: &K,
 )
     ensures { (counting : Counting) (request : RequestValue) (before after : Streams) (outcome : Outcome) →
         HasCountedTexts (world (reads (names (C.has _captures.now) C.can_refuse C.Input.Source.can_fail) R.can_fail
-        W.can_fail) (keeps K.can_refuse K.Part.Sink.can_fail) M.Sink.can_fail J.is_known) counting request before after
-        outcome → is_unwritten outcome ≡ true → W.can_fail }
+        W.can_fail) (keeps K.can_refuse K.Part.Sink.can_fail (K.keeps_input _copies.now)) M.Sink.can_fail J.is_known)
+        counting request before after outcome → is_unwritten outcome ≡ true → W.can_fail }
 {}
 
 /// A journal that keeps all rows, as far as it has room. So what is proved of journals that are known holds for one.

@@ -7,8 +7,6 @@
 
 pub mod capture_files;
 pub mod captures;
-pub mod copies;
-pub mod copy_files;
 pub mod copy_run;
 pub mod count;
 pub mod count_line;
@@ -39,7 +37,7 @@ pub mod statistics_format;
 pub mod wrong_words;
 
 use capture_files::CaptureFiles;
-use copy_files::CopyFiles;
+use ether_files::{CopyFiles, Form, OwnOutput, hold};
 use ether_text::{Noted, tell_failure};
 use progress_line::{Gauge, Meter};
 use std::process::ExitCode;
@@ -47,16 +45,20 @@ use std::{env, io};
 
 /// The program on the standard streams.
 fn main(rt: HostRuntime) -> ExitCode {
+    let _input = hold(&rt.stdin(), &rt, true);
+    let _output = hold(&rt.stdout(), &rt, false);
+    let _messages = hold(&rt.stderr(), &rt, false);
     let args = env::args(&rt);
     let unread = args.as_ref().err().copied();
     let gauge = Gauge::new(&rt, rt.stderr());
-    let mut input = Noted::new(Meter::new(rt.reader(), None, &gauge));
+    let own = OwnOutput::new(&rt);
+    let mut input = Noted::new(Meter::new(own.guard(&rt, rt.reader()), None, &gauge));
     let mut output = Noted::new(io::writer(&rt));
     let status = program::run_program::<io::Sink, _, _, _, _, _>(
         args,
         rt.alloc(),
-        &CaptureFiles::new(&rt, &gauge),
-        &mut CopyFiles::new(&rt, rt.alloc()),
+        &CaptureFiles::new(&rt, &gauge, own),
+        &mut CopyFiles::new(&rt, rt.alloc(), Form::Capture),
         &mut input,
         &mut output,
         &mut rt.stderr(),

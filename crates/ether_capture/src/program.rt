@@ -15,7 +15,6 @@ ghost use Rattle.ether_stream.specs.declared.outcome.Outcome.TheVariants.{NoMemo
 ghost use Rattle.ether_stream.specs.declared.outcome.RunFault.TheVariants.{Output};
 
 use crate::captures::Captures;
-use crate::copies::Copies;
 use crate::copy_run::{copy_file, copy_input};
 use crate::grouping::{Each, Grouping, Together};
 use crate::journal::Journal;
@@ -26,6 +25,7 @@ use crate::run_input::run_input;
 use crate::several_files::run_files;
 use crate::statistics::Statistics;
 use crate::statistics_format::StatisticsFormat;
+use ether_files::Copies;
 use ether_format::Format;
 use ether_output::{OutputBuffer, OutputFault, Sink};
 use ether_stream::{LineSink, Outcome, RunFault, Task, is_message, last_line, program_status};
@@ -50,8 +50,8 @@ pub fn run_program<J: Journal + Drop, C: Captures, K: Copies, R: Source, W: Line
     messages: &mut M,
 ) -> u8
     ensures served { HasServed (world (reads (names (C.has captures.now) C.can_refuse C.Input.Source.can_fail)
-        R.can_fail W.Sink.can_fail) (keeps K.can_refuse K.Part.Sink.can_fail) M.Sink.can_fail J.is_known)
-        (arguments_of args) (streams (R.remaining reader.old) (W.Sink.contents writer.old)
+        R.can_fail W.Sink.can_fail) (keeps K.can_refuse K.Part.Sink.can_fail (K.keeps_input copies.old))
+        M.Sink.can_fail J.is_known) (arguments_of args) (streams (R.remaining reader.old) (W.Sink.contents writer.old)
         (M.Sink.contents messages.old) (K.file copies.old)) (streams (R.remaining reader.new)
         (W.Sink.contents writer.new) (M.Sink.contents messages.new) (K.file copies.new)) result }
     ensures flushed { result ≢ 4 → Settles W.Sink.is_flushed writer.old writer.new }
@@ -87,10 +87,10 @@ fn carry_out_words<'a, J: Journal + Drop, C: Captures, K: Copies, R: Source, W: 
     messages: &mut M,
 ) -> Outcome<'a>
     ensures obeyed { HasObeyed (world (reads (names (C.has captures.now) C.can_refuse C.Input.Source.can_fail)
-        R.can_fail W.can_fail) (keeps K.can_refuse K.Part.Sink.can_fail) M.Sink.can_fail J.is_known)
-        (Some (map string_bytes words.now)) (streams (R.remaining reader.old) (W.contents writer.old)
-        (M.Sink.contents messages.old) (K.file copies.old)) (streams (R.remaining reader.new) (W.contents writer.new)
-        (M.Sink.contents messages.new) (K.file copies.new)) result }
+        R.can_fail W.can_fail) (keeps K.can_refuse K.Part.Sink.can_fail (K.keeps_input copies.old))
+        M.Sink.can_fail J.is_known) (Some (map string_bytes words.now)) (streams (R.remaining reader.old)
+        (W.contents writer.old) (M.Sink.contents messages.old) (K.file copies.old)) (streams (R.remaining reader.new)
+        (W.contents writer.new) (M.Sink.contents messages.new) (K.file copies.new)) result }
     ensures flushed { IfGone result (Settles W.is_flushed writer.old writer.new) }
     ensures told { Settles M.Sink.is_flushed messages.old messages.new ⊎ M.Sink.can_fail }
 {
@@ -124,7 +124,7 @@ fn carry_out_request<
     messages: &mut M,
 ) -> Outcome<'a>
     ensures done { HasDone (world (reads (names (C.has captures.now) C.can_refuse C.Input.Source.can_fail) R.can_fail
-        W.can_fail) (keeps K.can_refuse K.Part.Sink.can_fail) M.Sink.can_fail J.is_known)
+        W.can_fail) (keeps K.can_refuse K.Part.Sink.can_fail (K.keeps_input copies.old)) M.Sink.can_fail J.is_known)
         (statistics_asked (request_view request.entry)) (request_view request.entry) (streams (R.remaining reader.old)
         (W.contents writer.old) (M.Sink.contents messages.old) (K.file copies.old)) (streams (R.remaining reader.new)
         (W.contents writer.new) (M.Sink.contents messages.new) (K.file copies.new)) result }
@@ -145,6 +145,7 @@ fn carry_out_request<
             &mut counts,
             messages,
         );
+        captures.end_line();
         write_counts(&mut counts, outcome, counting.format, writer)
     } else {
         let mut counts = Statistics::<J, Each>::new(alloc);
@@ -157,6 +158,7 @@ fn carry_out_request<
             &mut counts,
             messages,
         );
+        captures.end_line();
         write_counts(&mut counts, outcome, counting.format, writer)
     }
 }
@@ -213,9 +215,10 @@ fn write_lines_or_copy<'a, C: Captures, K: Copies, R: Source, W: Sink, M: LineSi
 ) -> Outcome<'a>
     ensures done { (is_known : Bool) → HasHeaded (world (reads
         (names (C.has captures.now) C.can_refuse C.Input.Source.can_fail) R.can_fail W.can_fail)
-        (keeps K.can_refuse K.Part.Sink.can_fail) M.Sink.can_fail is_known) (request_view request.entry) (streams
-        (R.remaining reader.old) (W.contents writer.old) (M.Sink.contents messages.old) (K.file copies.old)) (streams
-        (R.remaining reader.new) (W.contents writer.new) (M.Sink.contents messages.new) (K.file copies.new)) result }
+        (keeps K.can_refuse K.Part.Sink.can_fail (K.keeps_input copies.old)) M.Sink.can_fail is_known)
+        (request_view request.entry) (streams (R.remaining reader.old) (W.contents writer.old)
+        (M.Sink.contents messages.old) (K.file copies.old)) (streams (R.remaining reader.new) (W.contents writer.new)
+        (M.Sink.contents messages.new) (K.file copies.new)) result }
     ensures flushed { IfGone result (Settles W.is_flushed writer.old writer.new) }
     ensures told { Settles M.Sink.is_flushed messages.old messages.new ⊎ M.Sink.can_fail }
 {
@@ -259,8 +262,9 @@ fn run_job<'a, C: Captures, K: Copies, R: Source, W: Sink>(
 ) -> Outcome<'a>
     ensures run { (told : Option (List ℕ)) → HasRunJob (reads
         (names (C.has captures.now) C.can_refuse C.Input.Source.can_fail) R.can_fail W.can_fail)
-        (keeps K.can_refuse K.Part.Sink.can_fail) (task_view job.now.task) (option_map (λ s. s.now) job.now.input)
-        (option_map (λ s. s.now) job.now.output) (streams (R.remaining reader.old) (W.contents writer.old) told
+        (keeps K.can_refuse K.Part.Sink.can_fail (K.keeps_input copies.old)) (task_view job.now.task)
+        (option_map (λ s. s.now) job.now.input) (option_map (λ s. s.now) job.now.output) (streams (R.remaining
+        reader.old) (W.contents writer.old) told
         (K.file copies.old)) (streams (R.remaining reader.new) (W.contents writer.new) told (K.file copies.new))
         result }
     ensures flushed { IfGone result (Settles W.is_flushed writer.old writer.new) }

@@ -104,7 +104,8 @@ sent_before (Some p) = p.sent
 abbrev pub frame_count : Settings → TemplateValue → ℕ
 frame_count settings t = unwrap_or settings.count t.found.combinations
 
--- whether it is known how many frames are made: combinations that 64 bits do not count (0) need a number that is asked for
+-- whether it is known how many frames are made: combinations that 64 bits do not count (0) need a number that is
+-- asked for
 abbrev pub is_counted : Settings → TemplateValue → Bool
 is_counted settings t = is_some settings.count || nat_lt 0 t.found.combinations
 

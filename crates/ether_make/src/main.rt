@@ -40,18 +40,30 @@ pub mod time_text;
 pub mod wrong_words;
 
 use about::{HELP, VERSION};
+use ether_files::{Copies, CopyFiles, OwnOutput, WriteFault, hold};
 use input_files::{FileFault, run_files};
 use named_files::NamedFiles;
 use options::request_of_words;
 use program::RunFault;
 use request::{Job, Request, RequestError};
-use std::alloc::Global;
-use std::io::{BufWriter, ErrorKind, Write};
+use settings::Form;
+use std::io::{BufRead, BufReader, BufWriter, ErrorKind, Write};
 use std::process::ExitCode;
-use std::{env, fs};
+use std::{env, io};
+
+/// What messages call the standard streams.
+const STANDARD_INPUT: &str = "standard input";
+
+const STANDARD_OUTPUT: &str = "standard output";
+
+/// The name of standard input among those of files.
+const INPUT_WORD: &str = "-";
 
 /// The program on the standard streams.
 fn main(rt: HostRuntime) -> ExitCode {
+    let _input = hold(&rt.stdin(), &rt, true);
+    let _output = hold(&rt.stdout(), &rt, false);
+    let _messages = hold(&rt.stderr(), &rt, false);
     let args = match env::args(&rt) {
         Ok(args) => args,
         Err(error) => {
@@ -67,8 +79,8 @@ fn main(rt: HostRuntime) -> ExitCode {
     };
     ExitCode::from(match request_of_words(words.as_slice(), rt.alloc()) {
         Ok(Request::Make(job)) => make(rt, &job),
-        Ok(Request::Help) => status_of_text(print!(rt; "{HELP}").is_ok()),
-        Ok(Request::Version) => status_of_text(println!(rt; "{VERSION}").is_ok()),
+        Ok(Request::Help) => status_of_text(rt, print!(rt; "{HELP}")),
+        Ok(Request::Version) => status_of_text(rt, println!(rt; "{VERSION}")),
         Err(RequestError::Usage(usage)) => {
             let _ = eprintln!(rt; "ether_make: {usage}");
             2
@@ -78,8 +90,19 @@ fn main(rt: HostRuntime) -> ExitCode {
 }
 
 /// The exit status after a text.
-fn status_of_text(is_written: bool) -> u8 {
-    if is_written { 0 } else { 4 }
+fn status_of_text(rt: HostRuntime, written: io::Result<()>) -> u8 {
+    match written {
+        Ok(()) => 0,
+        Err(error) => unwritten(rt, STANDARD_OUTPUT, &error),
+    }
+}
+
+/// Says why the output was not written, unless nobody reads it any more, and returns the exit status.
+fn unwritten(rt: HostRuntime, output: &str, error: &io::Error) -> u8 {
+    if error.kind() != ErrorKind::BrokenPipe {
+        let _ = eprintln!(rt; "ether_make: {output}: {error}");
+    }
+    4
 }
 
 /// Says that there is no memory, and returns the exit status.
@@ -90,24 +113,136 @@ fn no_memory(rt: HostRuntime) -> u8 {
 
 /// Makes the frames that are asked for, and returns the exit status.
 fn make(rt: HostRuntime, job: &Job<'_>) -> u8 {
-    let name = match job.output {
-        None | Some("-") => return make_to(rt, job, rt.stdout(), "standard output"),
-        Some(name) => name,
-    };
-    match fs::create(&rt, name) {
-        Ok(file) => make_to(rt, job, file, name),
-        Err(error) => {
-            let _ = eprintln!(rt; "ether_make: {name}: {error}");
-            4
-        }
+    match job.output {
+        None | Some(INPUT_WORD) => match make_to(rt, job, rt.stdout()) {
+            Made::All => 0,
+            Made::NoMemory => no_memory(rt),
+            Made::OwnOutput(input) => refused(rt, input),
+            Made::Fault(fault) => tell(rt, &fault),
+        },
+        Some(name) => make_file(rt, job, name),
     }
 }
 
-/// .. and writes them to an output with this name.
-fn make_to<W: Write + Drop>(rt: HostRuntime, job: &Job<'_>, output: W, name: &str) -> u8 {
-    let Ok(mut writer) = BufWriter::new(rt.alloc(), output) else {
-        return no_memory(rt);
+/// Makes frames for the file of a name, and returns the exit status. The file gets all of them, or after a fault those
+/// before it, if they were made of standard input that can't be read again.
+fn make_file(rt: HostRuntime, job: &Job<'_>, name: &str) -> u8 {
+    let form = match job.settings.form {
+        Form::Capture => ether_files::Form::Capture,
+        Form::Hex => ether_files::Form::Lines,
     };
+    let mut files = CopyFiles::new(&rt, rt.alloc(), form);
+    let inputs = named_or_input(job);
+    let mut part = match files.begin(name, inputs) {
+        Ok(part) => part,
+        Err(fault) => return not_written(rt, name, fault),
+    };
+    let made = make_to(rt, job, &mut part);
+    let is_kept = files.keeps_input() && names_input(inputs) && part.has_frames();
+    match made {
+        Made::All => match files.finish(name, part) {
+            Ok(()) => 0,
+            Err(fault) => not_written(rt, name, fault),
+        },
+        Made::NoMemory => {
+            let _ = files.give_up(name, part, is_kept);
+            no_memory(rt)
+        }
+        Made::OwnOutput(input) => {
+            let _ = files.give_up(name, part, false);
+            refused(rt, input)
+        }
+        Made::Fault(fault) => match &fault.fault {
+            RunFault::Output(_) => not_written(rt, name, files.give_up(name, part, is_kept)),
+            _ => match files.break_off(name, part, is_kept) {
+                Ok(()) => tell(rt, &fault),
+                Err(fault) => not_written(rt, name, fault),
+            },
+        },
+    }
+}
+
+/// The names of the inputs.
+fn named_or_input<'a>(job: &'a Job<'a>) -> &'a [&'a str] {
+    if job.files.is_empty() {
+        return &[INPUT_WORD];
+    }
+    job.files.as_slice()
+}
+
+/// Tests that standard input is among the inputs.
+fn names_input(inputs: &[&str]) -> bool {
+    for input in inputs {
+        if *input == INPUT_WORD {
+            return true;
+        }
+    }
+    false
+}
+
+/// Says why the file of a name can't be written, and returns the exit status.
+fn not_written(rt: HostRuntime, name: &str, fault: WriteFault) -> u8 {
+    let _ = eprintln!(rt; "ether_make: {name}: {fault}");
+    4
+}
+
+/// How frames were made.
+#[derive(Drop)]
+enum Made<'a> {
+    /// All of them were.
+    All,
+    /// There was no memory to begin with.
+    NoMemory,
+    /// This input is the output, too, so what is written would be read.
+    OwnOutput(&'a str),
+    /// A fault ended the run.
+    Fault(FileFault<'a>),
+}
+
+/// The first input that is standard output, too, and has something to read, if there is one.
+fn own_output<'a, R: BufRead>(
+    rt: HostRuntime,
+    inputs: &'a [&'a str],
+    reader: &mut R,
+) -> Option<&'a str> {
+    let own = OwnOutput::new(&rt);
+    for input in inputs {
+        if *input != INPUT_WORD {
+            if own.is_named(&rt, input) {
+                return Some(input);
+            }
+        } else if own.is_input(&rt) && has_bytes(reader) {
+            return Some(STANDARD_INPUT);
+        }
+    }
+    None
+}
+
+/// Tests that a reader has something to read.
+fn has_bytes<R: BufRead>(reader: &mut R) -> bool {
+    match reader.fill_buf() {
+        Ok(bytes) => !bytes.is_empty(),
+        Err(_) => false,
+    }
+}
+
+/// Says that an input is the output, too, and returns the exit status.
+fn refused(rt: HostRuntime, input: &str) -> u8 {
+    let _ = eprintln!(rt; "ether_make: {input}: it is the output, too");
+    4
+}
+
+/// Makes the frames that are asked for, and writes them to an output.
+fn make_to<'a, W: Write + Drop>(rt: HostRuntime, job: &'a Job<'a>, output: W) -> Made<'a> {
+    let Ok(mut writer) = BufWriter::new(rt.alloc(), output) else {
+        return Made::NoMemory;
+    };
+    let Ok(mut reader) = BufReader::new(rt.alloc(), rt.reader()) else {
+        return Made::NoMemory;
+    };
+    if let Some(name) = own_output(rt, named_or_input(job), &mut reader) {
+        return Made::OwnOutput(name);
+    }
     let files = NamedFiles::new(&rt);
     let names = job.files.as_slice();
     match run_files(
@@ -115,30 +250,30 @@ fn make_to<W: Write + Drop>(rt: HostRuntime, job: &Job<'_>, output: W, name: &st
         rt.alloc(),
         &job.settings,
         names,
-        &mut rt.reader(),
+        &mut reader,
         &mut writer,
     ) {
-        Ok(()) => 0,
-        Err(fault) => tell(rt, &fault, name),
+        Ok(()) => Made::All,
+        Err(fault) => Made::Fault(fault),
     }
 }
 
-/// Says why not all frames were made, unless nobody reads them any more, and returns the exit status.
-fn tell(rt: HostRuntime, fault: &FileFault<'_>, output: &str) -> u8 {
-    let file = fault.file.unwrap_or("standard input");
-    let (told, status) = match (&fault.fault, fault.file) {
-        (RunFault::Input(error), _) => (eprintln!(rt; "ether_make: {file}: {error}"), 4),
-        (RunFault::Output(error), _) if error.kind() == ErrorKind::BrokenPipe => (Ok(()), 4),
-        (RunFault::Output(error), _) => (eprintln!(rt; "ether_make: {output}: {error}"), 4),
-        (RunFault::Line(stop), Some(file)) => (
-            eprintln!(rt; "ether_make: {file}: {stop}"),
-            program::status_of(stop),
-        ),
-        (RunFault::Line(stop), None) => (
-            eprintln!(rt; "ether_make: {stop}"),
-            program::status_of(stop),
-        ),
-    };
-    let _ = told;
-    status
+/// Says why not all frames were made, and returns the exit status.
+fn tell(rt: HostRuntime, fault: &FileFault<'_>) -> u8 {
+    match (&fault.fault, fault.file) {
+        (RunFault::Input(error), file) => {
+            let file = file.unwrap_or(STANDARD_INPUT);
+            let _ = eprintln!(rt; "ether_make: {file}: {error}");
+            4
+        }
+        (RunFault::Output(error), _) => unwritten(rt, STANDARD_OUTPUT, error),
+        (RunFault::Line(stop), Some(file)) => {
+            let _ = eprintln!(rt; "ether_make: {file}: {stop}");
+            program::status_of(stop)
+        }
+        (RunFault::Line(stop), None) => {
+            let _ = eprintln!(rt; "ether_make: {stop}");
+            program::status_of(stop)
+        }
+    }
 }

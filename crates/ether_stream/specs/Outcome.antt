@@ -9,13 +9,12 @@ use Rattle.ether_filter.specs.ErrorTexts.{filter_error_text}
 use Rattle.ether_filter.specs.declared.filter_error.FilterError.{FilterError}
 use Rattle.ether_text.specs.declared.verdict.Verdict.{Verdict}
 use Rattle.ether_text.specs.declared.verdict.Verdict.TheVariants.{AllAccepted, SomeRefused}
-use Rattle.ether_stream.specs.declared.open_fault.OpenFault.{OpenFault}
-use Rattle.ether_stream.specs.declared.open_fault.OpenFault.TheVariants as open_faults
-use Rattle.ether_stream.specs.declared.write_fault.WriteFault.{WriteFault}
-use Rattle.ether_stream.specs.declared.write_fault.WriteFault.TheVariants as write_faults
+use Rattle.ether_files.specs.Faults.{open_fault_text, write_fault_text}
+use Rattle.ether_files.specs.declared.open_fault.OpenFault.{OpenFault}
+use Rattle.ether_files.specs.declared.write_fault.WriteFault.{WriteFault}
 use Rattle.ether_stream.specs.Usage.{usage_text}
 use Rattle.ether_stream.specs.declared.about.TheConstants.{HELP, VERSION}
-use Rattle.ether_stream.specs.declared.messages.TheConstants.{BZIP2, DENIED, GZIP, IS_FOLDER, LZ4, NO_FILE, NO_FOLDER, NO_MEMORY, NO_NAME, NO_SPACE, NOT_COUNTS, NOT_EDITED, NOT_OPENED, NOT_WRITTEN, OTHER_VERSION, PCAP_VARIANT, PROGRAM, SELECT, STANDARD_INPUT, TRY_HELP, UNREADABLE, XZ, ZSTD}
+use Rattle.ether_stream.specs.declared.messages.TheConstants.{BZIP2, GZIP, LZ4, NO_MEMORY, NOT_COUNTS, NOT_EDITED, OTHER_VERSION, PCAP_VARIANT, PROGRAM, SELECT, STANDARD_INPUT, TRY_HELP, UNREADABLE, XZ, ZSTD}
 use Rattle.ether_stream.specs.declared.usage.Usage.{Usage}
 use Rattle.ether_stream.specs.declared.outcome.Outcome.{Outcome}
 use Rattle.ether_stream.specs.declared.outcome.Outcome.TheVariants as outcomes
@@ -71,31 +70,15 @@ offset_text offset said = codes "byte " ++ (decimal offset ++ (codes ": " ++ sai
 abbrev pub fault_line_text : CaptureFault → List ℕ
 fault_line_text fault = offset_text fault.offset (capture_error_text fault.error ++ hint_text fault.error)
 
--- why a capture can't be opened
-abbrev pub open_fault_text : OpenFault → List ℕ
-open_fault_text open_faults.NotFound = NO_FILE.now
-open_fault_text open_faults.PermissionDenied = DENIED.now
-open_fault_text open_faults.IsADirectory = IS_FOLDER.now
-open_fault_text open_faults.Other = []
-
--- why a copy can't be written
-abbrev pub write_fault_text : WriteFault → List ℕ
-write_fault_text write_faults.NoName = NO_NAME.now
-write_fault_text write_faults.NotFound = NO_FOLDER.now
-write_fault_text write_faults.PermissionDenied = DENIED.now
-write_fault_text write_faults.IsADirectory = IS_FOLDER.now
-write_fault_text write_faults.StorageFull = NO_SPACE.now
-write_fault_text write_faults.Other = []
-
 -- something is said of the file of a name
 abbrev pub named_text : (name said : List ℕ) → List ℕ
 named_text name said = name ++ (codes ": " ++ said)
 
 abbrev pub not_opened_text : (name : List ℕ) → OpenFault → List ℕ
-not_opened_text name fault = named_text name (NOT_OPENED.now ++ open_fault_text fault)
+not_opened_text name fault = named_text name (open_fault_text fault)
 
 abbrev pub not_written_text : (name : List ℕ) → WriteFault → List ℕ
-not_written_text name fault = named_text name (NOT_WRITTEN.now ++ write_fault_text fault)
+not_written_text name fault = named_text name (write_fault_text fault)
 
 -- a line of standard input is not that of a count
 abbrev pub not_counts_text : (number : ℕ) → List ℕ

@@ -19,7 +19,6 @@ mod linux_sll_lines;
 mod memory;
 mod messages;
 mod no_memory;
-mod open_fault;
 mod option_values;
 mod outcome;
 mod progress;
@@ -29,7 +28,6 @@ mod selection;
 mod task;
 mod usage;
 mod vlan_options;
-mod write_fault;
 
 pub use about::{HELP, VERSION};
 pub use buffers::Buffers;
@@ -40,7 +38,6 @@ pub use input_buffer::InputBuffer;
 pub use line_sink::LineSink;
 pub use memory::Grow;
 pub use no_memory::NoMemory;
-pub use open_fault::OpenFault;
 pub use option_values::{
     FormatName, count_of, edit_of_words, fields_of, filter_of, format_of, limit_of,
     status_on_fault_of, undecided_of,
@@ -53,4 +50,3 @@ pub use section_table::{MAX_INTERFACES, SectionTable};
 pub use selection::{Selection, Undecided};
 pub use task::{Form, LineOptions, Task};
 pub use usage::{DependentOption, Usage, ValueOption};
-pub use write_fault::WriteFault;

@@ -6,24 +6,6 @@ pub(crate) const PROGRAM: &str = "ether_capture";
 /// What messages call standard input.
 pub(crate) const STANDARD_INPUT: &str = "standard input";
 
-// ---- a file that is not read or written
-
-pub(crate) const NOT_OPENED: &str = "can't be opened";
-
-pub(crate) const NOT_WRITTEN: &str = "can't be written";
-
-pub(crate) const NO_FILE: &str = ": there is no such file";
-
-pub(crate) const NO_FOLDER: &str = ": there is no such folder";
-
-pub(crate) const NO_NAME: &str = ": its name is empty";
-
-pub(crate) const NO_SPACE: &str = ": no space is left";
-
-pub(crate) const DENIED: &str = ": permission denied";
-
-pub(crate) const IS_FOLDER: &str = ": it is a folder";
-
 // ---- a capture that is not read to its end
 
 pub(crate) const UNREADABLE: &str = "can't be read";

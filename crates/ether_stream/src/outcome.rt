@@ -1,15 +1,15 @@
 //! How the program ends: what a run found or why it stopped, the exit status of each, and the last line.
 ghost use Rattle.std.specs.Prelude.{◌≡◌};
 ghost use Rattle.std.specs.Option.{option_map};
-ghost use Rattle.ether_stream.specs.Outcome.{exit_status, hint_text, is_message, magic_hint_text, last_line_text, last_text, open_fault_text, status_of_file, status_of_program, text_of_file, text_of_input, text_of_run, write_fault_text};
+ghost use Rattle.ether_stream.specs.Outcome.{exit_status, hint_text, is_message, magic_hint_text, last_line_text, last_text, status_of_file, status_of_program, text_of_file, text_of_input, text_of_run};
 
 use crate::about::{HELP, VERSION};
 use crate::messages::{
-    BZIP2, DENIED, GZIP, IS_FOLDER, LZ4, NO_FILE, NO_FOLDER, NO_MEMORY, NO_NAME, NO_SPACE,
-    NOT_COUNTS, NOT_EDITED, NOT_OPENED, NOT_WRITTEN, OTHER_VERSION, PCAP_VARIANT, PROGRAM, SELECT,
-    STANDARD_INPUT, TRY_HELP, UNREADABLE, XZ, ZSTD,
+    BZIP2, GZIP, LZ4, NO_MEMORY, NOT_COUNTS, NOT_EDITED, OTHER_VERSION, PCAP_VARIANT, PROGRAM,
+    SELECT, STANDARD_INPUT, TRY_HELP, UNREADABLE, XZ, ZSTD,
 };
-use crate::{NoMemory, OpenFault, Usage, WriteFault};
+use crate::{NoMemory, Usage};
+use ether_files::{OpenFault, WriteFault};
 use ether_filter::FilterError;
 use ether_output::OutputFault;
 use ether_pcap::{CaptureError, CaptureFault, FileHeaderError};
@@ -180,32 +180,6 @@ impl fmt::Display for Reason<'_> {
     }
 }
 
-/// The end of the message that a capture can't be opened: why.
-fn reason_not_opened(fault: OpenFault) -> &'static str
-    ensures { result.now ≡ open_fault_text fault }
-{
-    match fault {
-        OpenFault::NotFound => NO_FILE,
-        OpenFault::PermissionDenied => DENIED,
-        OpenFault::IsADirectory => IS_FOLDER,
-        OpenFault::Other => "",
-    }
-}
-
-/// The end of the message that a copy can't be written: why.
-fn reason_not_written(fault: WriteFault) -> &'static str
-    ensures { result.now ≡ write_fault_text fault }
-{
-    match fault {
-        WriteFault::NoName => NO_NAME,
-        WriteFault::NotFound => NO_FOLDER,
-        WriteFault::PermissionDenied => DENIED,
-        WriteFault::IsADirectory => IS_FOLDER,
-        WriteFault::StorageFull => NO_SPACE,
-        WriteFault::Other => "",
-    }
-}
-
 /// A line of the program about a run or its arguments.
 #[derive(Clone, Copy, Debug)]
 pub enum LastLine<'a> {
@@ -238,14 +212,8 @@ impl fmt::Display for LastLine<'_> {
     fn fmt<W: fmt::Write>(&self, f: &mut fmt::Formatter<W>) -> fmt::Result {
         match self {
             LastLine::Stopped(name, reason) => write!(f, "{name}: {reason}"),
-            LastLine::NotOpened(name, fault) => {
-                let reason = reason_not_opened(*fault);
-                write!(f, "{name}: {NOT_OPENED}{reason}")
-            }
-            LastLine::NotWritten(name, fault) => {
-                let reason = reason_not_written(*fault);
-                write!(f, "{name}: {NOT_WRITTEN}{reason}")
-            }
+            LastLine::NotOpened(name, fault) => write!(f, "{name}: {fault}"),
+            LastLine::NotWritten(name, fault) => write!(f, "{name}: {fault}"),
             LastLine::NotCounts(number) => write!(
                 f,
                 "{STANDARD_INPUT}: line {number}: {NOT_COUNTS}"

@@ -1,4 +1,4 @@
-//! What ends a run before its input does: SIGINT and SIGTERM. Written by hand, not proved.
+//! What ends a run before its input does: SIGINT, SIGTERM and SIGHUP. Written by hand, not proved.
 //!
 //! The first of these signals asks the run to end: so the input is read on for at most a second, since its writer may
 //! have got the signal, too, and end it. Later signals have their default effect.
@@ -6,7 +6,7 @@ use crate::jobs::{bell, later};
 use arrayvec::ArrayVec;
 use nix::errno::Errno;
 use nix::poll::{PollFd, PollFlags, poll};
-use signal_hook::consts::{SIGINT, SIGTERM};
+use signal_hook::consts::{SIGHUP, SIGINT, SIGTERM};
 use signal_hook::{SigId, flag, low_level};
 use std::cell::Cell;
 use std::fs::File;
@@ -56,7 +56,7 @@ impl Ending {
     pub fn watched() -> Ending {
         let mut ending = Ending::default();
         let ignored = ignored_signals();
-        let signals = [SIGINT, SIGTERM].into_iter().filter(|signal| ignored >> (signal - 1) & 1 == 0);
+        let signals = [SIGHUP, SIGINT, SIGTERM].into_iter().filter(|signal| ignored >> (signal - 1) & 1 == 0);
         match ending.watch(signals) {
             Ok(woken) => ending.woken = Some(woken),
             Err(_) => ending.has_default.store(true, Ordering::SeqCst),
@@ -147,6 +147,16 @@ impl Ending {
         let deadline = self.deadline.get().unwrap_or(now + PATIENCE);
         self.deadline.set(Some(deadline));
         Some(patience.min(deadline.saturating_duration_since(now)))
+    }
+
+    /// Tests that more may be written. What is made of a line has as long as the input after the signal; what is made already is
+    /// written in any case.
+    fn lets_write(&self) -> io::Result<()> {
+        if !self.has_cut.get() && self.left(PATIENCE).is_some_and(|left| left.is_zero()) {
+            self.has_cut.set(true);
+            return Err(Error::other("a signal has ended the run"));
+        }
+        Ok(())
     }
 
     /// Tests that an input may be read, and waits until that has something to read, if it is not a regular file, or until
@@ -258,5 +268,29 @@ impl Read for Ended<'_> {
                 answer => return answer,
             }
         }
+    }
+}
+
+/// A writer that fails once when a signal has ended the run, unless its input has failed for that reason.
+pub struct Written<'a, W> {
+    writer: W,
+    ending: &'a Ending,
+}
+
+impl<'a, W> Written<'a, W> {
+    /// The writer.
+    pub fn new(writer: W, ending: &'a Ending) -> Self {
+        Written { writer, ending }
+    }
+}
+
+impl<W: Write> Write for Written<'_, W> {
+    fn write(&mut self, buf: &[u8]) -> io::Result<usize> {
+        self.ending.lets_write()?;
+        self.writer.write(buf)
+    }
+
+    fn flush(&mut self) -> io::Result<()> {
+        self.writer.flush()
     }
 }

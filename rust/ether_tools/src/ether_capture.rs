@@ -4,8 +4,6 @@
 //! This list of modules is written by hand, in the place of `crates/ether_capture/src/main.rt`.
 pub mod capture_files;
 pub mod captures;
-pub mod copies;
-pub mod copy_files;
 pub mod copy_run;
 pub mod count;
 pub mod count_line;

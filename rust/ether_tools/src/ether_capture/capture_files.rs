@@ -2,11 +2,11 @@
 use crate::ending::{Ended, Ending};
 use crate::ether_capture::captures::Captures;
 use crate::ether_capture::progress_line::{Gauge, Meter};
-use crate::ether_stream::OpenFault;
+use crate::ether_files::{OpenFault, OwnOutput};
 use crate::gzip::Unpacked;
 use crate::reasons::{Reasons, WithReason};
 use std::fs::{self, File};
-use std::io::{self, Error, ErrorKind};
+use std::io;
 use std::os::unix::fs::FileTypeExt;
 
 /// Captures in files, which may be packed by gzip, and what shows how far they are read.
@@ -17,6 +17,8 @@ pub struct CaptureFiles<'a> {
     pub ending: &'a Ending,
     /// Keeps why one can't be read.
     pub reasons: &'a Reasons,
+    /// Is not read.
+    pub output: OwnOutput,
 }
 
 impl<'a> Captures for CaptureFiles<'a> {
@@ -26,9 +28,10 @@ impl<'a> Captures for CaptureFiles<'a> {
         if !self.ending.lets_open() {
             return Err(OpenFault::Other);
         }
-        let file = self.open(name).map_err(|error| open_fault(&error))?;
+        let file = self.open(name).map_err(|error| OpenFault::of(&error))?;
         let size = match file.metadata() {
             Ok(metadata) if metadata.is_dir() => return Err(OpenFault::IsADirectory),
+            Ok(metadata) if metadata.len() > 0 && self.output.is(&metadata) => return Err(OpenFault::IsOutput),
             Ok(metadata) if metadata.is_file() => Some(metadata.len()),
             _ => None,
         };
@@ -50,15 +53,5 @@ impl CaptureFiles<'_> {
     fn open(&self, name: &str) -> io::Result<File> {
         let is_fifo = fs::metadata(name).is_ok_and(|found| found.file_type().is_fifo());
         if is_fifo { self.ending.unwatched(|| File::open(name)) } else { File::open(name) }
-    }
-}
-
-/// Why a capture can't be opened, by the system's error.
-fn open_fault(error: &Error) -> OpenFault {
-    match error.kind() {
-        ErrorKind::NotFound => OpenFault::NotFound,
-        ErrorKind::PermissionDenied => OpenFault::PermissionDenied,
-        ErrorKind::IsADirectory => OpenFault::IsADirectory,
-        _ => OpenFault::Other,
     }
 }

@@ -1,6 +1,6 @@
 //! What opens captures by their names.
 
-use crate::ether_stream::OpenFault;
+use crate::ether_files::OpenFault;
 use crate::ether_text::Source;
 
 /// What opens captures by their names, and can show how far they are read.

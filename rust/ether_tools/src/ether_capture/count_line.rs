@@ -17,7 +17,15 @@ fn last_number(text: &[u8]) -> Option<(&[u8], usize)> {
     if digits.is_empty() || !are_digits(digits) {
         return None;
     }
-    Some((front, decimal_value(digits)))
+    let number = exact_value(digits)?;
+    Some((front, number))
+}
+
+/// The number that decimal digits spell. Returns `None` if 64 bits don't hold it.
+fn exact_value(digits: &[u8]) -> Option<usize> {
+    let last = digits.len() - 1;
+    let front = decimal_value(&digits[..last]).checked_mul(10)?;
+    front.checked_add(usize::from(digits[last].saturating_sub(48)))
 }
 
 /// The parts of a text before and after the last `byte`. Returns `None` if it has no such byte.

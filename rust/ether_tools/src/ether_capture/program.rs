@@ -1,7 +1,6 @@
 //! The program, over any arguments, files, reader and writer.
 
 use crate::ether_capture::captures::Captures;
-use crate::ether_capture::copies::Copies;
 use crate::ether_capture::copy_run::{copy_file, copy_input};
 use crate::ether_capture::grouping::{Each, Grouping, Together};
 use crate::ether_capture::journal::Journal;
@@ -12,6 +11,7 @@ use crate::ether_capture::run_input::run_input;
 use crate::ether_capture::several_files::run_files;
 use crate::ether_capture::statistics::Statistics;
 use crate::ether_capture::statistics_format::StatisticsFormat;
+use crate::ether_files::Copies;
 use etherpeel::ether_format::Format;
 use etherpeel::ether_output::{OutputBuffer, OutputFault, Sink};
 use crate::ether_stream::{LineSink, Outcome, RunFault, Task, is_message, last_line, program_status};
@@ -31,8 +31,8 @@ use std::{env, io};
 ///
 /// ```text
 /// ensures served { HasServed (world (reads (names (C.has captures.now) C.can_refuse C.Input.Source.can_fail)
-///     R.can_fail W.Sink.can_fail) (keeps K.can_refuse K.Part.Sink.can_fail) M.Sink.can_fail J.is_known)
-///     (arguments_of args) (streams (R.remaining reader.old) (W.Sink.contents writer.old)
+///     R.can_fail W.Sink.can_fail) (keeps K.can_refuse K.Part.Sink.can_fail (K.keeps_input copies.old))
+///     M.Sink.can_fail J.is_known) (arguments_of args) (streams (R.remaining reader.old) (W.Sink.contents writer.old)
 ///     (M.Sink.contents messages.old) (K.file copies.old)) (streams (R.remaining reader.new)
 ///     (W.Sink.contents writer.new) (M.Sink.contents messages.new) (K.file copies.new)) result }
 /// ensures flushed { result ≢ 4 → Settles W.Sink.is_flushed writer.old writer.new }
@@ -121,6 +121,7 @@ fn carry_out_request<
             &mut counts,
             messages,
         );
+        captures.end_line();
         write_counts(&mut counts, outcome, counting.format, writer)
     } else {
         let mut counts = Statistics::<J, Each>::new(alloc);
@@ -133,6 +134,7 @@ fn carry_out_request<
             &mut counts,
             messages,
         );
+        captures.end_line();
         write_counts(&mut counts, outcome, counting.format, writer)
     }
 }

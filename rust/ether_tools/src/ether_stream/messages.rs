@@ -6,24 +6,6 @@ pub(in crate::ether_stream) const PROGRAM: &str = "ether_capture";
 /// What messages call standard input.
 pub(in crate::ether_stream) const STANDARD_INPUT: &str = "standard input";
 
-// ---- a file that is not read or written
-
-pub(in crate::ether_stream) const NOT_OPENED: &str = "can't be opened";
-
-pub(in crate::ether_stream) const NOT_WRITTEN: &str = "can't be written";
-
-pub(in crate::ether_stream) const NO_FILE: &str = ": there is no such file";
-
-pub(in crate::ether_stream) const NO_FOLDER: &str = ": there is no such folder";
-
-pub(in crate::ether_stream) const NO_NAME: &str = ": its name is empty";
-
-pub(in crate::ether_stream) const NO_SPACE: &str = ": no space is left";
-
-pub(in crate::ether_stream) const DENIED: &str = ": permission denied";
-
-pub(in crate::ether_stream) const IS_FOLDER: &str = ": it is a folder";
-
 // ---- a capture that is not read to its end
 
 pub(in crate::ether_stream) const UNREADABLE: &str = "can't be read";

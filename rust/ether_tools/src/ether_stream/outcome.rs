@@ -2,11 +2,11 @@
 
 use crate::ether_stream::about::{HELP, VERSION};
 use crate::ether_stream::messages::{
-    BZIP2, DENIED, GZIP, IS_FOLDER, LZ4, NO_FILE, NO_FOLDER, NO_MEMORY, NO_NAME, NO_SPACE,
-    NOT_COUNTS, NOT_EDITED, NOT_OPENED, NOT_WRITTEN, OTHER_VERSION, PCAP_VARIANT, PROGRAM, SELECT,
-    STANDARD_INPUT, TRY_HELP, UNREADABLE, XZ, ZSTD,
+    BZIP2, GZIP, LZ4, NO_MEMORY, NOT_COUNTS, NOT_EDITED, OTHER_VERSION, PCAP_VARIANT, PROGRAM,
+    SELECT, STANDARD_INPUT, TRY_HELP, UNREADABLE, XZ, ZSTD,
 };
-use crate::ether_stream::{NoMemory, OpenFault, Usage, WriteFault};
+use crate::ether_stream::{NoMemory, Usage};
+use crate::ether_files::{OpenFault, WriteFault};
 use etherpeel::ether_filter::FilterError;
 use etherpeel::ether_output::OutputFault;
 use etherpeel::ether_pcap::{CaptureError, CaptureFault, FileHeaderError};
@@ -162,28 +162,6 @@ impl fmt::Display for Reason<'_> {
     }
 }
 
-/// The end of the message that a capture can't be opened: why.
-fn reason_not_opened(fault: OpenFault) -> &'static str {
-    match fault {
-        OpenFault::NotFound => NO_FILE,
-        OpenFault::PermissionDenied => DENIED,
-        OpenFault::IsADirectory => IS_FOLDER,
-        OpenFault::Other => "",
-    }
-}
-
-/// The end of the message that a copy can't be written: why.
-fn reason_not_written(fault: WriteFault) -> &'static str {
-    match fault {
-        WriteFault::NoName => NO_NAME,
-        WriteFault::NotFound => NO_FOLDER,
-        WriteFault::PermissionDenied => DENIED,
-        WriteFault::IsADirectory => IS_FOLDER,
-        WriteFault::StorageFull => NO_SPACE,
-        WriteFault::Other => "",
-    }
-}
-
 /// A line of the program about a run or its arguments.
 #[derive(Clone, Copy, Debug)]
 pub enum LastLine<'a> {
@@ -211,14 +189,8 @@ impl fmt::Display for LastLine<'_> {
     fn fmt(&self, f: &mut fmt::Formatter<'_>) -> fmt::Result {
         match self {
             LastLine::Stopped(name, reason) => write!(f, "{name}: {reason}"),
-            LastLine::NotOpened(name, fault) => {
-                let reason = reason_not_opened(*fault);
-                write!(f, "{name}: {NOT_OPENED}{reason}")
-            }
-            LastLine::NotWritten(name, fault) => {
-                let reason = reason_not_written(*fault);
-                write!(f, "{name}: {NOT_WRITTEN}{reason}")
-            }
+            LastLine::NotOpened(name, fault) => write!(f, "{name}: {fault}"),
+            LastLine::NotWritten(name, fault) => write!(f, "{name}: {fault}"),
             LastLine::NotCounts(number) => write!(
                 f,
                 "{STANDARD_INPUT}: line {number}: {NOT_COUNTS}"

@@ -20,3 +20,12 @@ returns-then-is_empty-clause-none c =
       | then-is_empty-via-else-is_empty+then-not-are_digits w ↦
           (let yes : true ≡ false = sym (w.are_digits.ensures.1 n.all) ∙ w.if-not-are_digits.true in absurd cc)
     ])
+
+pub returns-in_err-number-clause-none : goal.returns-in_err-number-clause-none
+returns-in_err-number-clause-none c =
+    let is = c.in_ok-front.ensures.some in
+    rw c.from_residual-in_err-number.ensures
+    (after_last_tab c.args.text.now c.in_ok-front.front.now c.in_ok-front.digits.now is.0 is.1
+    (λ number n. let value = n.value in
+    let fits = n.fits in
+    let big = c.in_err-number.ensures.none in omega (arith, value, fits, big)))

@@ -1,15 +1,14 @@
 //! Keeps copies in the file system.
 ghost use Rattle.std.specs.Prelude.{◌≡◌, ⊤, None};
-ghost use Rattle.std.specs.IoError.{error_kind};
-ghost use Rattle.ether_capture.specs.Copies.{write_fault_of};
 
+use crate::WriteFault;
 use crate::copies::Copies;
-use ether_stream::WriteFault;
+use crate::units::{Form, WholeParts};
 use std::alloc::{AllocError, Global};
 use std::fs::{File, Metadata, OpenFile, OpenOptions};
 use std::io::{ErrorKind, Write};
-use std::os::unix::fs::MetadataExt;
-use std::path::PathBuf;
+use std::os::unix::fs::{MetadataExt, lchown};
+use std::path::{Path, PathBuf};
 use std::rt::Files;
 use std::{fs, io};
 
@@ -21,14 +20,26 @@ const MOST_PARTS: usize = 100;
 pub struct CopyFiles<'a, F> {
     files: &'a F,
     alloc: Global,
+    form: Form,
+    keeps_input: bool,
 }
 
-impl<'a, F> CopyFiles<'a, F> {
-    /// The copies in all files.
-    pub fn new(files: &'a F, alloc: Global) -> Self
-        ensures { result.files.now ≡ files.now }
+impl<'a, F: Files> CopyFiles<'a, F> {
+    /// The copies of this form in all files. Standard input that is a regular file can be read again.
+    pub fn new(files: &'a F, alloc: Global, form: Form) -> Self
+        ensures files { result.files.now ≡ files.now }
+        ensures form { result.form ≡ form }
     {
-        CopyFiles { files, alloc }
+        let is_file = match fs::metadata(files, STANDARD_INPUT) {
+            Ok(found) => found.is_file(),
+            Err(_) => false,
+        };
+        CopyFiles {
+            files,
+            alloc,
+            form,
+            keeps_input: !is_file,
+        }
     }
 }
 
@@ -39,16 +50,24 @@ pub struct PartFile<W> {
     file: W,
     is_regular: bool,
     beside: Option<String>,
+    parts: WholeParts,
     error: Option<io::Error>,
 }
 
 /// How many symbolic links are followed from one to the next, as many as Linux follows.
 const MOST_LINKS: usize = 40;
 
-/// The name of standard input for the system.
+/// The name of standard input among those of files, and its name for the system.
+const INPUT_WORD: &str = "-";
+
 const STANDARD_INPUT: &str = "/dev/stdin";
 
 impl<W: Write> PartFile<W> {
+    /// Tests that a whole packet, block or line was written.
+    pub fn has_frames(&self) -> bool {
+        self.parts.has_frames()
+    }
+
     /// Keeps the error of a call, if it has failed, and returns what the call returned.
     fn note<V>(&mut self, answer: io::Result<V>) -> io::Result<V>
         ensures { result ≡ answer }
@@ -68,11 +87,21 @@ impl<W: OpenFile> PartFile<W> {
         }
         Ok(())
     }
+
+    /// Cuts a regular file after what was written whole.
+    fn cut(&self) {
+        if self.is_regular {
+            let _ = self.file.set_len(self.parts.len());
+        }
+    }
 }
 
 impl<W: Write> Write for PartFile<W> {
     fn write(&mut self, buf: &[u8]) -> io::Result<usize> {
         let answer = self.file.write(buf);
+        if let Ok(count) = answer {
+            self.parts.take(&buf[..count]);
+        }
         self.note(answer)
     }
 
@@ -89,7 +118,13 @@ impl<F: Files> Copies for CopyFiles<'_, F> {
 
     ghost can_refuse = { λ _. ⊤ };
 
-    fn begin(&mut self, name: &str, input: Option<&str>) -> Result<PartFile<F::File>, WriteFault> {
+    ghost keeps_input = { λ copies. copies.keeps_input };
+
+    fn keeps_input(&self) -> bool {
+        self.keeps_input
+    }
+
+    fn begin(&mut self, name: &str, inputs: &[&str]) -> Result<PartFile<F::File>, WriteFault> {
         if name.is_empty() {
             return Err(WriteFault::NoName);
         }
@@ -104,44 +139,93 @@ impl<F: Files> Copies for CopyFiles<'_, F> {
             return Ok(existing);
         }
         match self.beside(self.followed(name)?.as_str()) {
-            Ok(part) => match part.file.set_permissions(found.permissions()) {
-                Ok(()) | Err(_) => Ok(part),
-            },
-            Err(WriteFault::PermissionDenied) => self.in_place(existing, &found, input),
+            Ok(part) => {
+                self.resemble(&part, &found);
+                Ok(part)
+            }
+            Err(WriteFault::PermissionDenied) => self.in_place(existing, &found, inputs),
             Err(fault) => Err(fault),
         }
     }
 
     fn finish(&mut self, name: &str, part: PartFile<F::File>) -> Result<(), WriteFault> {
-        let moved = match (part.sync(), &part.beside) {
-            (Ok(()), Some(beside)) => self.rename(beside.as_str(), name),
-            (synced, _) => synced,
+        let moved = match part.sync() {
+            Ok(()) => self.rename(&part.beside, name),
+            Err(error) => Err(error),
         };
         match moved {
             Ok(()) => Ok(()),
             Err(error) => {
                 self.remove(&part.beside);
-                Err(write_fault(&error))
+                Err(WriteFault::of(&error))
             }
         }
     }
 
-    fn give_up(&mut self, _name: &str, part: PartFile<F::File>) -> WriteFault {
+    fn break_off(
+        &mut self,
+        name: &str,
+        part: PartFile<F::File>,
+        is_kept: bool,
+    ) -> Result<(), WriteFault> {
+        if is_kept && !part.parts.is_empty() {
+            return self.finish(name, part);
+        }
         self.remove(&part.beside);
+        Ok(())
+    }
+
+    fn give_up(&mut self, name: &str, part: PartFile<F::File>, is_kept: bool) -> WriteFault {
+        if is_kept && !part.parts.is_empty() {
+            part.cut();
+            let _ = part.sync();
+            let _ = self.rename(&part.beside, name);
+        } else {
+            self.remove(&part.beside);
+        }
         match &part.error {
-            Some(error) => write_fault(error),
+            Some(error) => WriteFault::of(error),
             None => WriteFault::Other,
         }
     }
 }
 
 impl<F: Files> CopyFiles<'_, F> {
-    /// Gives a part the name of its file.
-    fn rename(&self, part: &str, name: &str) -> io::Result<()> {
+    /// Gives a part, if there is one, the name of its file, and waits until the folder is on the disk.
+    fn rename(&self, part: &Option<String>, name: &str) -> io::Result<()> {
+        let Some(part) = part else {
+            return Ok(());
+        };
         match self.followed(name) {
-            Ok(path) => fs::rename(self.files, part, path.as_str()),
-            Err(_) => fs::rename(self.files, part, name),
+            Ok(path) => {
+                fs::rename(self.files, part.as_str(), path.as_str())?;
+                self.sync_folder(path.as_path());
+                Ok(())
+            }
+            Err(_) => fs::rename(self.files, part.as_str(), name),
         }
+    }
+
+    /// Waits until the folder of a file is on the disk, if the system lets it be opened.
+    fn sync_folder(&self, path: Path<'_>) {
+        let folder = match path.parent() {
+            Some(folder) if !folder.as_str().is_empty() => folder.as_str(),
+            _ => ".",
+        };
+        if let Ok(folder) = fs::open(self.files, folder) {
+            let _ = folder.sync_all();
+        }
+    }
+
+    /// Gives a part the owner, the group and the permissions of the file that gets it, as far as the system lets it.
+    fn resemble(&self, part: &PartFile<F::File>, found: &Metadata) {
+        if let Some(beside) = &part.beside {
+            let group = Some(found.gid());
+            if lchown(self.files, beside.as_str(), Some(found.uid()), group).is_err() {
+                let _ = lchown(self.files, beside.as_str(), None, group);
+            }
+        }
+        let _ = part.file.set_permissions(found.permissions());
     }
 
     /// The name of the file to which symbolic links lead, also if that is not there. A name that is no link is returned
@@ -162,20 +246,34 @@ impl<F: Files> CopyFiles<'_, F> {
         Err(WriteFault::Other)
     }
 
-    /// Empties a file that gets a copy, unless that is of the file itself.
+    /// Empties a file that gets a copy, unless it is among what is copied.
     fn in_place(
         &self,
         existing: PartFile<F::File>,
         found: &Metadata,
-        input: Option<&str>,
+        inputs: &[&str],
     ) -> Result<PartFile<F::File>, WriteFault> {
-        match fs::metadata(self.files, input.unwrap_or(STANDARD_INPUT)) {
-            Ok(read) if (read.dev(), read.ino()) != (found.dev(), found.ino()) => {}
-            _ => return Err(WriteFault::PermissionDenied),
+        for input in inputs {
+            if !self.is_other(input, found) {
+                return Err(WriteFault::PermissionDenied);
+            }
         }
         match existing.file.set_len(0) {
             Ok(()) => Ok(existing),
-            Err(error) => Err(write_fault(&error)),
+            Err(error) => Err(WriteFault::of(&error)),
+        }
+    }
+
+    /// Tests that an input is another file than this one.
+    fn is_other(&self, input: &str, found: &Metadata) -> bool {
+        let name = if input == INPUT_WORD {
+            STANDARD_INPUT
+        } else {
+            input
+        };
+        match fs::metadata(self.files, name) {
+            Ok(read) => (read.dev(), read.ino()) != (found.dev(), found.ino()),
+            Err(_) => false,
         }
     }
 
@@ -186,9 +284,10 @@ impl<F: Files> CopyFiles<'_, F> {
                 file,
                 is_regular,
                 beside: None,
+                parts: WholeParts::new(self.form),
                 error: None,
             }),
-            Err(error) => Err(write_fault(&error)),
+            Err(error) => Err(WriteFault::of(&error)),
         }
     }
 
@@ -204,11 +303,12 @@ impl<F: Files> CopyFiles<'_, F> {
                         file,
                         is_regular: true,
                         beside: Some(part),
+                        parts: WholeParts::new(self.form),
                         error: None,
                     });
                 }
                 Err(error) if error.kind() == ErrorKind::AlreadyExists => (),
-                Err(error) => return Err(write_fault(&error)),
+                Err(error) => return Err(WriteFault::of(&error)),
             }
         }
         Err(WriteFault::Other)
@@ -227,20 +327,5 @@ fn part_name(name: &str, number: usize, alloc: Global) -> Result<String, AllocEr
     match number {
         0 => format!(in alloc; "{name}.part"),
         _ => format!(in alloc; "{name}.{number}.part"),
-    }
-}
-
-/// Why a copy can't be written, by the system's error.
-fn write_fault(error: &io::Error) -> WriteFault
-    ensures { result ≡ write_fault_of (error_kind error.now) }
-{
-    match error.kind() {
-        ErrorKind::NotFound | ErrorKind::NotADirectory => WriteFault::NotFound,
-        ErrorKind::PermissionDenied | ErrorKind::ReadOnlyFilesystem => WriteFault::PermissionDenied,
-        ErrorKind::IsADirectory => WriteFault::IsADirectory,
-        ErrorKind::StorageFull | ErrorKind::QuotaExceeded | ErrorKind::FileTooLarge => {
-            WriteFault::StorageFull
-        }
-        _ => WriteFault::Other,
     }
 }
