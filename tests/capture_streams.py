@@ -145,7 +145,7 @@ def in_place(program, words, files, given=None, how=0o555):
 
 def copies_in_place(program):
     """Copies to files in a folder where none can be made: they are written in place, unless the copy is of the file itself."""
-    files = {"one": CLASSIC, "two": OLD, "cut": CLASSIC[:120]}
+    files = {"one": CLASSIC, "two": OLD * 1000, "cut": CLASSIC[:120]}
     denied = not_written("one", ": permission denied")
     return [(f"in place: {name}", in_place(program, words, files, given), ((b"", said, status), changed)) for name, words, given, said, status, changed in (
         ("a shorter copy", ["-w", "two", "one", "-c", "1"], None, "", 0, {"two": CLASSIC[:59]}),

@@ -440,6 +440,7 @@ def word_cases(program):
     done = subprocess.run([program], stdin=folder, capture_output=True, check=False)
     os.close(folder)
     yield "a folder", (done.stdout, done.stderr, done.returncode), (capture_of([]), b"ether_make: standard input: Is a directory (os error 21)\n", 4)
+    yield "a word that is no text", said(b"\xff"), ("", "ether_make: an argument is not UTF-8\n", 4)
     for words, wrong in WRONG_WORDS.items():
         yield f"wrong words: {words}", said(*words.split()), ("", f"ether_make: {wrong}\n", 2)
 

@@ -109,6 +109,7 @@ FAULTS = [
     Fault(COPIES, "a copy of a run that fails", "(is_kept || self.ending.has_cut())", "true"),
     Fault(COPIES, "half a packet on a full disk", "self.file.set_len(self.parts.len())", "self.file.sync_all()"),
     Fault(COPIES, "a copy that is lost", "kept.err().map(|fault| (name.to_owned(), fault))", "None"),
+    Fault(COPIES, "what is left of an old file", "file.set_len(0).map_err(|error| WriteFault::of(&error))?;", ""),
     Fault(COPIES, "another owner", "fchown(part, Some(found.uid()), Some(found.gid()))", "fchown(part, None, None)"),
     Fault(COPIES, "a FIFO that nobody reads", "found.file_type().is_fifo()", "false"),
     Fault(FILES, "a FIFO that nobody opens", "found.file_type().is_fifo()", "false"),
