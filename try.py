@@ -23,7 +23,7 @@ TESTS, CALLS = "library_tests", "drawn_calls"
 SECONDS = 3600  # for the calls
 LIBRARIES = "ether_base ether_tags ether_sll ether_arp etherparse ether_peel ether_sll2 ether_packet ether_filter ether_pcap ether_content ether_switch arrayvec"
 # The crates that need no proof, each with the libraries that it uses.
-UNPROVED = {TESTS: f"{LIBRARIES} ether_text example_frames", CALLS: f"{LIBRARIES} ether_fields ether_output ether_format anyhow"}
+UNPROVED = {TESTS: f"{LIBRARIES} ether_fields ether_output ether_format ether_text example_frames", CALLS: f"{LIBRARIES} ether_fields ether_output ether_format anyhow"}
 
 
 def has_tests(crate):

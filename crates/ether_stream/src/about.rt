@@ -2,8 +2,7 @@
 
 /// What `--help` prints, without its last LF. The lines of the options are made of the table of options of
 /// `ether_capture`, by `tests/options.py --set`.
-pub const HELP: &str =
-    "usage: ether_capture [-r FILE | FILE..] [SELECTION] [--limit N] [--jobs N]
+pub const HELP: &str = "usage: ether_capture [-r FILE | FILE..] [SELECTION] [--limit N] [--jobs N]
                      [--progress] [--status-on-fault yes|no] [--plain |
                      --format lines|brief|json [--bytes] | --fields COLUMNS
                      [--format csv] [--header] | --stats [--fields COLUMNS |

@@ -17,6 +17,8 @@ mod examples;
 #[rustfmt::skip]
 mod filter;
 #[rustfmt::skip]
+mod format;
+#[rustfmt::skip]
 mod formats;
 #[rustfmt::skip]
 mod packet;

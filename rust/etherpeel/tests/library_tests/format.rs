@@ -1,0 +1,3 @@
+//! Tests of `ether_format`.
+mod lines;
+mod times;
