@@ -103,6 +103,8 @@ def steps():
             print(f"left out: the lints and the documentation of {os.path.basename(folder)}, since {why}")
         else:
             folders[folder] = ["--all-targets"]
+            if folder == building.PROGRAMS:
+                yield folder, ["test", "--lib", "--bins"], {}
     oldest, version = building.oldest_rustc(), "{}.{}".format(*building.OLDEST)
     if not oldest:
         print(f"left out: what the oldest compiler makes of the crates, since no rustc {version} was found")
