@@ -75,7 +75,7 @@ FEATURES = {
     "ether_fields": "filter", "ether_filter": "filter", "ether_pcap": "pcap", "ether_content": "content", "ether_switch": "switch",
     **dict.fromkeys(["ether_output", "ether_format"], "format"),
 }
-TEST_FEATURES = {"filter": "content", "pcap": "pcap", "switch": "switch"}
+TEST_FEATURES = {"filter": "content", "format": "format std", "pcap": "pcap", "switch": "switch"}
 # The crates of tests, which are below `tests/`, each with the examples that it tests.
 TESTS = {"library_tests": ["example_frames"]}
 TEST_SOURCES = os.path.join(os.path.dirname(HERE), "tests")
@@ -338,9 +338,10 @@ def documentation(lines):
         yield f'#![cfg_attr(feature = "{feature}", doc = "{text}")]' if feature else f"//! {text}"
 
 
-def only_with(feature):
-    """The line before what is there only with a feature, if it needs one."""
-    return f'#[cfg(feature = "{feature}")]\n' if feature else ""
+def only_with(features):
+    """The line before what is there only with some features, if it needs any."""
+    named = [f'feature = "{it}"' for it in (features or "").split()]
+    return f"#[cfg(all({', '.join(named)}))]\n" if named[1:] else f"#[cfg({named[0]})]\n" if named else ""
 
 
 def added(path):

@@ -104,7 +104,7 @@ def steps():
         else:
             folders[folder] = ["--all-targets"]
             if folder == building.PROGRAMS:
-                yield folder, ["test", "--lib", "--bins"], {}
+                yield folder, ["test"], {}
     oldest, version = building.oldest_rustc(), "{}.{}".format(*building.OLDEST)
     if not oldest:
         print(f"left out: what the oldest compiler makes of the crates, since no rustc {version} was found")

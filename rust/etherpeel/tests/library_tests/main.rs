@@ -16,6 +16,7 @@ mod examples;
 #[cfg(feature = "content")]
 #[rustfmt::skip]
 mod filter;
+#[cfg(all(feature = "format", feature = "std"))]
 #[rustfmt::skip]
 mod format;
 #[rustfmt::skip]
