@@ -15,7 +15,7 @@ rust=$(cd "$(dirname "$0")" && pwd)
 command=$1
 shift
 if ! command -v cargo > /dev/null; then
-    echo "cargo was not found: install Rust 1.85 or later, on Debian by 'apt-get install cargo-web rustc-web'"
+    echo "cargo 1.85 or later was not found: install Rust, on Debian by 'apt-get install cargo-web rustc-web'"
     exit 1
 fi >&2
 

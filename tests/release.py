@@ -158,7 +158,7 @@ def check_vendored(dist, work):
     status, said = run(*words, folder=f"{top}/rust/etherpeel_c", CARGO_PROFILE_DEV_DEBUG="0", **offline)
     check("etherpeel_c of the archive with the crates", status == 0, said)
     path = released.path_without(f"{work}/vendored/path", "rt")
-    first_commands.check_commands("the archive with the crates", top, f"{work}/vendored/user", path, **offline, **QUICK)
+    first_commands.check_commands("the archive with the crates", top, f"{work}/vendored/user", path, **offline)
 
 
 def main():

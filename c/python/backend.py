@@ -150,7 +150,7 @@ def source_files():
             names += [os.path.relpath(f"{at}/{name}", top) for name in found if name.endswith((".py", ".rs", "py.typed"))]
     for package in ("etherpeel", "etherpeel_c"):
         names += [f"rust/{package}/Cargo.toml", f"rust/{package}/NOTICE"]
-    names += ["rust/etherpeel_c/Cargo.lock", "rust/registry.sh", "release/contents.py", "VERSION"]
+    names += ["rust/etherpeel_c/Cargo.lock", "rust/cargo.sh", "rust/registry.sh", "release/contents.py", "VERSION"]
     return [*sorted(names), "rust/build.sh", "rust/etherpeel/README.md", "rust/etherpeel_c/by_hand.rs"]
 
 
